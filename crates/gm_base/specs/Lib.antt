@@ -1,0 +1,5 @@
+pub mod Code
+pub mod Counter
+pub mod Hash
+pub mod Identifier
+pub mod Tally

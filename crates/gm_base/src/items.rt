@@ -1,0 +1,86 @@
+// A list, whatever room its vector has.
+ghost use Rattle.std.specs.Prelude.{◌≡◌, [], ◌∷◌, ◌++◌, ◌↔◌, length, IsTrue, IfOk, OnOk, OnErr};
+
+use crate::NoMemory;
+use std::alloc::Global;
+use std::marker::Model;
+
+/// A `Vec` that contracts see as the list of its elements.
+#[derive(Debug, Drop)]
+pub struct Items<T> {
+    items: Vec<T>,
+}
+
+impl<T> Model for Items<T> {
+    ghost use Rattle.std.specs.Prelude.{List};
+    ghost use Rattle.std.specs.Coded.{coded_list};
+
+    ghost Value = { List T };
+
+    ghost coded = { coded_list T.code };
+
+    ghost view = { λ it. it.items.items };
+}
+
+impl<T> Items<T> {
+    pub fn new(alloc: Global) -> Items<T>
+        ensures { result ≡ [] }
+    {
+        Items {
+            items: Vec::new(alloc),
+        }
+    }
+
+    /// The list of a vector. It takes no memory.
+    pub fn from_vec(items: Vec<T>) -> Items<T>
+        ensures { result ≡ items.items }
+    {
+        Items { items }
+    }
+
+    /// The vector again. It takes no memory.
+    pub fn into_vec(self) -> Vec<T>
+        ensures { result.items ≡ self }
+    {
+        let Items { items } = self;
+        items
+    }
+
+    pub fn as_slice(&self) -> &[T]
+        ensures { result.now ≡ self.now }
+    {
+        self.items.as_slice()
+    }
+
+    pub fn len(&self) -> usize
+        ensures { result ≡ length self.now }
+    {
+        self.items.len()
+    }
+
+    pub fn is_empty(&self) -> bool
+        ensures { IsTrue result ↔ (self.now ≡ []) }
+    {
+        self.items.is_empty()
+    }
+}
+
+impl<T: Drop> Items<T> {
+    pub fn push(&mut self, item: T) -> Result<(), NoMemory>
+        ensures ok { OnOk result (self.new ≡ self.old ++ item ∷ []) }
+        ensures err { OnErr result (self.new ≡ self.old) }
+    {
+        self.items.push(item)?;
+        Ok(())
+    }
+}
+
+impl<T: Copy> Items<T> {
+    pub fn from_slice(alloc: Global, items: &[T]) -> Result<Items<T>, NoMemory>
+        ensures { IfOk result (λ list. list ≡ items.now) }
+    {
+        Ok(Items {
+            items: Vec::from_slice(alloc, items)?,
+        })
+    }
+}
