@@ -1,0 +1,100 @@
+// A sink in memory.
+ghost use Rattle.std.specs.Prelude.{◌≡◌, ◌≤◌, ◌<◌, Some, length, [], true};
+ghost use Rattle.gm_outside.specs.Outside.{Rose};
+
+use crate::{Failed, Sink, SinkRefusal};
+use std::alloc::Global;
+
+/// Keeps what is written, in pieces, and fails at the calls that it is told.
+#[derive(Debug, Drop)]
+pub struct MemorySink {
+    bytes: Vec<u8>,
+    flushed: usize,
+    piece: usize,
+    calls: u64,
+    failing: Vec<u64>,
+    faults: u64,
+    ghost inside: { flushed ≤ length bytes.items },
+    ghost some: { 0 < piece },
+}
+
+impl MemorySink {
+    /// An empty sink that takes at most `piece` bytes a call, and fails at the calls of `write` and
+    /// `flush` with these numbers, from 0.
+    pub fn new(alloc: Global, piece: usize, failing: Vec<u64>) -> MemorySink
+        requires { 0 < piece }
+        ensures written { ⟦<MemorySink as Sink>⟧.written result ≡ Some [] }
+        ensures faults { ⟦<MemorySink as Sink>⟧.faults result ≡ 0 }
+    {
+        MemorySink {
+            bytes: Vec::new(alloc),
+            flushed: 0,
+            piece,
+            calls: 0,
+            failing,
+            faults: 0,
+        }
+    }
+
+    /// All that was written.
+    pub fn bytes(&self) -> &[u8]
+        ensures { ⟦<MemorySink as Sink>⟧.written self.now ≡ Some result.now }
+    {
+        &self.bytes
+    }
+
+    /// How many of the bytes are flushed.
+    pub fn flushed(&self) -> usize
+        ensures { result ≡ ⟦<MemorySink as Sink>⟧.flushed self.now }
+    {
+        self.flushed
+    }
+
+    /// The number of calls of `write` and `flush` so far.
+    pub fn calls(&self) -> u64 {
+        self.calls
+    }
+
+    // Counts a call, and says whether it fails.
+    fn fails(&mut self) -> bool
+        ensures bytes { self.new.bytes ≡ self.old.bytes }
+        ensures flushed { self.new.flushed ≡ self.old.flushed }
+        ensures cause { result ≡ true → Rose self.old.faults self.new.faults }
+        ensures later { self.old.faults ≤ self.new.faults }
+    {
+        let call = self.calls;
+        self.calls = call.saturating_add(1);
+        let fails = self.failing.contains(&call);
+        if fails {
+            self.faults = self.faults.saturating_add(1);
+        }
+        fails
+    }
+}
+
+impl Sink for MemorySink {
+    ghost written = { λ s. Some s.bytes.items };
+
+    ghost flushed = { λ s. s.flushed };
+
+    ghost faults = { λ s. s.faults };
+
+    fn write(&mut self, _alloc: Global, from: &[u8]) -> Result<usize, SinkRefusal> {
+        if self.fails() {
+            return Err(SinkRefusal::Failed);
+        }
+        let n = self.piece.min(from.len());
+        if self.bytes.extend_from_slice(&from[..n]).is_err() {
+            return Err(SinkRefusal::NoMemory);
+        }
+        Ok(n)
+    }
+
+    fn flush(&mut self) -> Result<(), Failed> {
+        if self.fails() {
+            return Err(Failed);
+        }
+        self.flushed = self.bytes.len();
+        Ok(())
+    }
+}

@@ -1,0 +1,50 @@
+// A sink over a writer of std, such as standard output.
+ghost use Rattle.std.specs.Prelude.{◌≡◌, None};
+
+use crate::{Failed, Sink, SinkRefusal};
+use std::alloc::Global;
+use std::io::Write;
+
+/// Hands on what is written, and tells nothing of it. Each error of the writer is a fault, and so is a
+/// write that takes nothing.
+#[derive(Debug, Drop)]
+pub struct StreamSink<W: Write> {
+    writer: W,
+    faults: u64,
+}
+
+impl<W: Write> StreamSink<W> {
+    pub fn new(writer: W) -> StreamSink<W>
+        ensures { ⟦<StreamSink<W> as Sink>⟧.faults result ≡ 0 }
+    {
+        StreamSink { writer, faults: 0 }
+    }
+}
+
+impl<W: Write> Sink for StreamSink<W> {
+    ghost written = { λ _. None };
+
+    ghost flushed = { λ _. 0 };
+
+    ghost faults = { λ s. s.faults };
+
+    fn write(&mut self, _alloc: Global, from: &[u8]) -> Result<usize, SinkRefusal> {
+        match self.writer.write(from) {
+            Ok(n) if n > 0 => Ok(n),
+            _ => {
+                self.faults = self.faults.saturating_add(1);
+                Err(SinkRefusal::Failed)
+            }
+        }
+    }
+
+    fn flush(&mut self) -> Result<(), Failed> {
+        match self.writer.flush() {
+            Ok(()) => Ok(()),
+            Err(_) => {
+                self.faults = self.faults.saturating_add(1);
+                Err(Failed)
+            }
+        }
+    }
+}
