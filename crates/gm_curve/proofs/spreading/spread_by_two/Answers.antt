@@ -1,0 +1,8 @@
+use Rattle.std.proofs.Common.{refl}
+use Rattle.gm_curve.specs.Spreading.{spread_of}
+use Rattle.gm_curve.proofs.Blocks.{spread_two}
+use Rattle.gm_curve.proofs.spreading.spread_by_two.Goals as goal
+
+pub returns : goal.returns
+unfolding spread_of
+returns c = spread_two c.args.x c.from-x.result _ _ _ _ c.ranges.x.fits c.from-x.ensures refl refl refl refl
