@@ -1,0 +1,9 @@
+pub mod BinLaws
+pub mod BinOrder
+pub mod BinStarts
+pub mod Dates
+pub mod KnownValues
+pub mod PrintedForm
+pub mod Prints
+pub mod Readings
+pub mod RoundTrip

@@ -1,0 +1,24 @@
+use Rattle.std.proofs.Common.{◌≡◌, ◌+◌, pos, arith}
+use Rattle.jiff_core.proofs.SignedLemmas.{signed_casts, one_part}
+use Rattle.jiff_core.proofs.CalendarLemmas.{days_in_year_bounds}
+use Rattle.gm_calendar.proofs.BinStarts.{year_extent_lem}
+use Rattle.gm_calendar.proofs.extent.year_extent.Goals as goal
+
+pub day_from_1970-requires : goal.day_from_1970-requires
+day_from_1970-requires c =
+    let d = c.date-first.result in
+    let year : d.year ≡ pos (1970 + c.args.number) = omega (arith, signed_casts) in
+    let month : d.month ≡ 1 = omega (arith, signed_casts) in
+    let day : d.day ≡ 1 = omega (arith, signed_casts) in
+    let is = year_extent_lem d c.args.number year month day in
+    omega (arith, signed_casts)
+
+pub returns : goal.returns
+returns c =
+    let d = c.date-first.result in
+    let year : d.year ≡ pos (1970 + c.args.number) = omega (arith, signed_casts) in
+    let month : d.month ≡ 1 = omega (arith, signed_casts) in
+    let day : d.day ≡ 1 = omega (arith, signed_casts) in
+    let is = year_extent_lem d c.args.number year month day in
+    let long = days_in_year_bounds d.year in
+    record { first_is = omega (arith, signed_casts); days_is = omega (arith, signed_casts, one_part) }
