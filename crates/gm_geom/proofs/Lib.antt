@@ -1,0 +1,5 @@
+pub mod Extents
+pub mod Lists
+pub mod Numbers
+pub mod Places
+pub mod RoundTrip

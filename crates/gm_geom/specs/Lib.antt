@@ -1,0 +1,4 @@
+pub mod Geometry
+pub mod Validity
+pub mod Extent
+pub mod Number

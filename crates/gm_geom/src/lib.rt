@@ -1,0 +1,20 @@
+//! Fixed-point numbers, points, boxes and geometries, after OGC Simple Features.
+#![tactic(auto)]
+
+mod extent;
+mod geometry;
+mod laws;
+mod number;
+mod place;
+mod printing;
+#[cfg(test)]
+mod tests;
+mod validity;
+
+pub use extent::bounds;
+pub use geometry::{Areas, Geometry, Lines, Points, Rings};
+pub use laws::{has_number_bytes, reads_back};
+pub use number::{NUMBER_LIMIT, NumberFault, read_fixed};
+pub use place::{Box2, Point};
+pub use printing::{append_fixed, print_fixed};
+pub use validity::{GeomFault, POINT_LIMIT, check};
