@@ -1,0 +1,10 @@
+pub mod Keywords
+pub mod Members
+pub mod Points
+pub mod Positions
+pub mod Prints
+pub mod Readers
+pub mod Scans
+pub mod Unique
+pub mod Values
+pub mod Wholes

@@ -1,0 +1,139 @@
+// Geometries to texts.
+ghost use Rattle.std.specs.Prelude.{◌≡◌, ◌++◌, ◌∷◌, List, ℕ, None, IfOk, OnOk, codes};
+ghost use Rattle.std.specs.String.{string_bytes};
+ghost use Rattle.gm_geom.specs.Validity.{fault_of};
+ghost use Rattle.gm_wkt.specs.Grammar as grammar;
+ghost use Rattle.gm_wkt.specs.Grammar.{SpellsText};
+ghost use Rattle.gm_wkt.specs.Printing as spec;
+ghost use Rattle.gm_wkt.specs.Printing.{position_text, lone_text, line_text, list_text, printed, body_text};
+
+use crate::keyword::Keyword;
+use gm_base::{Items, NoMemory, Text};
+use gm_geom::{Geometry, Point, append_fixed, has_number_bytes, reads_back};
+use std::alloc::Global;
+
+/// The text of a geometry.
+pub fn print(alloc: Global, geometry: &Geometry) -> Result<Text, NoMemory>
+    ensures text { IfOk result (λ text. text ≡ printed geometry.now) }
+    // What is printed of a geometry that is kept spells it, so reading gives it again.
+    ensures spells { fault_of geometry.now ≡ None → IfOk result (λ text. SpellsText text geometry.now) }
+{
+    reads_back();
+    has_number_bytes();
+    let mut out = String::new(alloc);
+    out.push_str(keyword_text(keyword_for(geometry)))?;
+    out.push_str(" ")?;
+    append_body(&mut out, geometry)?;
+    Ok(Text::from_string(out))
+}
+
+fn keyword_for(geometry: &Geometry) -> Keyword
+    ensures { result ≡ grammar.keyword_of geometry.now }
+{
+    match geometry {
+        Geometry::Point(_) => Keyword::Point,
+        Geometry::Line(_) => Keyword::Line,
+        Geometry::Area(_) => Keyword::Area,
+        Geometry::ManyPoints(_) => Keyword::ManyPoints,
+        Geometry::ManyLines(_) => Keyword::ManyLines,
+        Geometry::ManyAreas(_) => Keyword::ManyAreas,
+    }
+}
+
+fn keyword_text(keyword: Keyword) -> &'static str
+    ensures { result.now ≡ grammar.keyword_text keyword }
+{
+    match keyword {
+        Keyword::Point => "POINT",
+        Keyword::Line => "LINESTRING",
+        Keyword::Area => "POLYGON",
+        Keyword::ManyPoints => "MULTIPOINT",
+        Keyword::ManyLines => "MULTILINESTRING",
+        Keyword::ManyAreas => "MULTIPOLYGON",
+    }
+}
+
+fn append_body(out: &mut String, geometry: &Geometry) -> Result<(), NoMemory>
+    ensures { OnOk result (string_bytes out.new ≡ string_bytes out.old ++ body_text geometry.now) }
+{
+    match geometry {
+        Geometry::Point(point) => append_lone(out, point),
+        Geometry::Line(points) => points.append(out),
+        Geometry::Area(rings) => rings.append(out),
+        Geometry::ManyPoints(points) => append_lones(out, points.as_slice()),
+        Geometry::ManyLines(lines) => lines.append(out),
+        Geometry::ManyAreas(areas) => areas.append(out),
+    }
+}
+
+/// What stands in a text as a member of a list.
+trait Printed {
+    ghost text: { Self → List ℕ };
+
+    fn append(&self, out: &mut String) -> Result<(), NoMemory>
+        ensures { OnOk result (string_bytes out.new ≡ string_bytes out.old ++ text self.now) };
+}
+
+impl Printed for Point {
+    ghost text = { position_text };
+
+    fn append(&self, out: &mut String) -> Result<(), NoMemory> {
+        append_fixed(out, self.x)?;
+        out.push_str(" ")?;
+        append_fixed(out, self.y)
+    }
+}
+
+impl<T: Printed> Printed for Items<T> {
+    ghost text = { list_text T.text };
+
+    fn append(&self, out: &mut String) -> Result<(), NoMemory> {
+        append_list(out, self.as_slice())
+    }
+}
+
+fn append_list<T: Printed>(out: &mut String, items: &[T]) -> Result<(), NoMemory>
+    ensures { OnOk result (string_bytes out.new ≡ string_bytes out.old ++ list_text T.text items.now) }
+{
+    out.push_str("(")?;
+    let mut first = true;
+    'items: for item in items {
+        append_separator(out, first)?;
+        item.append(out)?;
+        first = false;
+    }
+    out.push_str(")")?;
+    Ok(())
+}
+
+fn append_separator(out: &mut String, first: bool) -> Result<(), NoMemory>
+    ensures { OnOk result (string_bytes out.new ≡ string_bytes out.old ++ spec.separator_text first) }
+{
+    if !first {
+        out.push_str(", ")?;
+    }
+    Ok(())
+}
+
+fn append_lone(out: &mut String, point: &Point) -> Result<(), NoMemory>
+    ensures { OnOk result (string_bytes out.new ≡ string_bytes out.old ++ lone_text point.now) }
+{
+    out.push_str("(")?;
+    point.append(out)?;
+    out.push_str(")")?;
+    Ok(())
+}
+
+fn append_lones(out: &mut String, points: &[Point]) -> Result<(), NoMemory>
+    ensures { OnOk result (string_bytes out.new ≡ string_bytes out.old ++ list_text lone_text points.now) }
+{
+    out.push_str("(")?;
+    let mut first = true;
+    'points: for point in points {
+        append_separator(out, first)?;
+        append_lone(out, point)?;
+        first = false;
+    }
+    out.push_str(")")?;
+    Ok(())
+}
