@@ -1,0 +1,4 @@
+mod Apart
+mod Found
+mod Inserted
+mod Maximal

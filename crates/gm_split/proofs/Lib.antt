@@ -1,0 +1,12 @@
+mod Answered
+mod Below
+mod Covering
+mod Decomposed
+mod Near
+mod Nodes
+mod Parts
+mod Promised
+mod Standing
+mod Stems
+mod Stop
+mod Turns

@@ -1,0 +1,6 @@
+pub mod Explained
+pub mod Levels
+pub mod Near
+pub mod Opening
+pub mod RunLaws
+pub mod Windows

@@ -1,0 +1,5 @@
+mod CellNodes
+mod Cells
+mod Numbering
+mod Objects
+mod Spelling
