@@ -1,0 +1,16 @@
+pub mod Bytes
+pub mod Causes
+pub mod Codes
+pub mod Cutting
+pub mod Finds
+pub mod FirstByte
+pub mod Opening
+pub mod Order
+pub mod Owners
+pub mod Puts
+pub mod Ranges
+pub mod ReadLines
+pub mod StateLemmas
+pub mod States
+pub mod Storing
+pub mod Streaming

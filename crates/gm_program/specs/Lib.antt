@@ -1,0 +1,17 @@
+pub mod Lines
+pub mod Command
+pub mod Numbers
+pub mod Reading
+pub mod State
+pub mod Feature
+pub mod Keys
+pub mod Rows
+pub mod Answer
+pub mod Changing
+pub mod Finding
+pub mod Step
+pub mod Reply
+pub mod Machine
+pub mod Serving
+pub mod Running
+pub mod Statuses

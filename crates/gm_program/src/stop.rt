@@ -1,0 +1,26 @@
+// Why serving ends before the script does.
+ghost use Rattle.std.specs.Prelude.{◌≡◌};
+ghost use Rattle.gm_program.specs.Statuses.{status_from};
+
+use crate::Status;
+
+#[derive(Clone, Copy, Debug, PartialEq, Eq)]
+pub(crate) enum Stop {
+    NoMemory,
+    ReadFault,
+    WriteFault,
+    TooLong,
+}
+
+/// The status of a run that ended so.
+pub(crate) fn status_of(outcome: Result<(), Stop>) -> Status
+    ensures { result ≡ status_from outcome }
+{
+    match outcome {
+        Ok(()) => Status::Done,
+        Err(Stop::NoMemory) => Status::NoMemory,
+        Err(Stop::ReadFault) => Status::ReadFault,
+        Err(Stop::WriteFault) => Status::WriteFault,
+        Err(Stop::TooLong) => Status::TooLong,
+    }
+}
