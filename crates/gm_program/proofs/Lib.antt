@@ -4,6 +4,7 @@ pub mod Codes
 pub mod Cutting
 pub mod Finds
 pub mod FirstByte
+pub mod KnownKeys
 pub mod Opening
 pub mod Order
 pub mod Owners
