@@ -24,12 +24,6 @@ pub(crate) enum LineFault {
     NoMemory,
 }
 
-impl From<NoMemory> for LineFault {
-    fn from(_: NoMemory) -> Self {
-        LineFault::NoMemory
-    }
-}
-
 /// The command that a line is, for the types with these names.
 pub(crate) fn read_line(alloc: Global, types: &[Text], line: &[u8]) -> Result<Command, LineFault>
     requires { length types.now ≤ 100 }
