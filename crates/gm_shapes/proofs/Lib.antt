@@ -1,0 +1,9 @@
+pub mod Walks
+pub mod Sides
+pub mod Found
+pub mod Boxes
+pub mod Crossings
+pub mod Swaps
+pub mod Overlap
+pub mod Bounding
+pub mod BoxArea

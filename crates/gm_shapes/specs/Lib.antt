@@ -1,0 +1,4 @@
+pub mod Segment
+pub mod Edge
+pub mod Polygon
+pub mod Meeting
