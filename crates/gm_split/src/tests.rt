@@ -1,9 +1,12 @@
-// The decomposition at each tree, compared with answers that are known from elsewhere.
+// The decomposition at each tree, compared with answers that are known from elsewhere: by hand, or by
+// a plain enumeration of all nodes of a tree.
+ghost use Rattle.std.specs.Prelude.{◌≤◌, length};
+
 use crate::{Split, split_in_plane, split_in_space};
-use gm_trees::{Node3, Window, XzTree, ZTree};
+use gm_trees::{Node3, Tree, Window, XzTree, ZTree};
+use std::alloc::Global;
 use std::marker::Brand;
 use std::sync::ledger::Blank;
-use std::test::Fail;
 
 fn window(low: [u32; 3], high: [u32; 3]) -> Window {
     Window {
@@ -31,25 +34,68 @@ fn has(answer: &Split, level: u32, runs: &[(u64, u64)]) -> bool {
     same
 }
 
+// Whether a tree of the plane answers this level and these runs.
+fn plane<T: Tree<2>>(
+    alloc: Global,
+    tree: &T,
+    windows: &[Window],
+    target: u32,
+    level: u32,
+    runs: &[(u64, u64)],
+) -> bool
+    requires size { T.IsAllowed tree.now }
+    requires least { 1 ≤ target }
+    requires most { target ≤ 10000 }
+    requires windows { length windows.now ≤ 64 }
+{
+    match split_in_plane::<_, Brand>(alloc, tree, windows, target, Blank::new(1)) {
+        Ok(answer) => has(&answer, level, runs),
+        Err(_) => false,
+    }
+}
+
+// Whether a tree of space and time answers this level and these runs.
+fn space<T: Tree<3>>(
+    alloc: Global,
+    tree: &T,
+    windows: &[Window],
+    target: u32,
+    level: u32,
+    runs: &[(u64, u64)],
+) -> bool
+    requires size { T.IsAllowed tree.now }
+    requires least { 1 ≤ target }
+    requires most { target ≤ 10000 }
+    requires windows { length windows.now ≤ 64 }
+{
+    match split_in_space::<_, Brand>(alloc, tree, windows, target, Blank::new(1)) {
+        Ok(answer) => has(&answer, level, runs),
+        Err(_) => false,
+    }
+}
+
 #[test]
-fn stops_where_the_level_has_too_many(rt: HostRuntime) -> Result<(), Fail> {
+fn stops_where_the_level_has_too_many(rt: HostRuntime) {
     let alloc = rt.alloc();
-    let most = window([0, 0, 0], [2147483642, 2147483647, 0]);
-    let answer = split_in_plane::<_, Brand>(alloc, &ZTree::<2, 31>, &[most], 4, Blank::new(1))?;
-    assert!(rt; has(&answer, 4, &[(0, 4611686018427387903)]));
-    let middle = window([127, 127, 0], [128, 128, 0]);
-    let answer = split_in_plane::<_, Brand>(alloc, &ZTree::<2, 8>, &[middle], 1, Blank::new(1))?;
-    assert!(rt; has(&answer, 1, &[(0, 65535)]));
-    let answer = split_in_plane::<_, Brand>(
-        alloc,
-        &ZTree::<2, 8>,
-        &[middle],
-        10000,
-        Blank::new(1),
-    )?;
+    let most = [window([0, 0, 0], [2147483642, 2147483647, 0])];
     assert!(rt;
-        has(
-            &answer,
+        plane(
+            alloc,
+            &ZTree::<2, 31>,
+            &most,
+            4,
+            4,
+            &[(0, 4611686018427387903)]
+        )
+    );
+    let middle = [window([127, 127, 0], [128, 128, 0])];
+    assert!(rt; plane(alloc, &ZTree::<2, 8>, &middle, 1, 1, &[(0, 65535)]));
+    assert!(rt;
+        plane(
+            alloc,
+            &ZTree::<2, 8>,
+            &middle,
+            10000,
             8,
             &[
                 (16383, 16383),
@@ -59,17 +105,25 @@ fn stops_where_the_level_has_too_many(rt: HostRuntime) -> Result<(), Fail> {
             ]
         )
     );
-    Ok(())
+    let stripes = [
+        window([0, 0, 0], [4, 15, 0]),
+        window([5, 0, 0], [10, 15, 0]),
+        window([11, 0, 0], [15, 15, 0]),
+    ];
+    assert!(rt; plane(alloc, &ZTree::<2, 4>, &stripes, 2, 2, &[(0, 255)]));
+    assert!(rt; plane(alloc, &ZTree::<2, 4>, &stripes, 4, 4, &[(0, 255)]));
 }
 
 #[test]
-fn counts_the_own_codes_of_extents(rt: HostRuntime) -> Result<(), Fail> {
+fn counts_the_own_codes_of_extents(rt: HostRuntime) {
     let alloc = rt.alloc();
-    let origin = window([8, 8, 0], [8, 8, 0]);
-    let answer = split_in_plane::<_, Brand>(alloc, &XzTree::<2, 4>, &[origin], 6, Blank::new(1))?;
+    let origin = [window([8, 8, 0], [8, 8, 0])];
     assert!(rt;
-        has(
-            &answer,
+        plane(
+            alloc,
+            &XzTree::<2, 4>,
+            &origin,
+            6,
             2,
             &[
                 (0, 1),
@@ -81,18 +135,251 @@ fn counts_the_own_codes_of_extents(rt: HostRuntime) -> Result<(), Fail> {
             ]
         )
     );
-    let answer = split_in_plane::<_, Brand>(alloc, &XzTree::<2, 4>, &[origin], 4, Blank::new(1))?;
-    assert!(rt; has(&answer, 1, &[(0, 340)]));
-    Ok(())
+    assert!(rt; plane(alloc, &XzTree::<2, 4>, &origin, 4, 1, &[(0, 340)]));
+    let last = [window([3, 3, 0], [3, 3, 0])];
+    assert!(rt;
+        plane(
+            alloc,
+            &XzTree::<2, 2>,
+            &last,
+            4,
+            2,
+            &[(0, 1), (6, 6), (11, 11), (16, 20)]
+        )
+    );
+    let two = [window([2, 2, 0], [3, 3, 0]), window([12, 9, 0], [13, 9, 0])];
+    assert!(rt;
+        plane(
+            alloc,
+            &XzTree::<2, 4>,
+            &two,
+            10,
+            3,
+            &[
+                (0, 22),
+                (86, 86),
+                (129, 129),
+                (145, 150),
+                (161, 165),
+                (171, 171),
+                (256, 257),
+                (263, 267),
+                (278, 283)
+            ]
+        )
+    );
 }
 
 #[test]
-fn splits_space(rt: HostRuntime) -> Result<(), Fail> {
+fn splits_the_plane_as_enumerated(rt: HostRuntime) {
     let alloc = rt.alloc();
-    let all = window([0, 0, 0], [255, 255, 255]);
-    let answer = split_in_space::<_, Brand>(alloc, &ZTree::<3, 8>, &[all], 2, Blank::new(1))?;
-    assert!(rt; has(&answer, 8, &[(0, 16777215)]));
-    let answer = split_in_space::<_, Brand>(alloc, &XzTree::<3, 4>, &[], 2, Blank::new(1))?;
-    assert!(rt; has(&answer, 4, &[]));
-    Ok(())
+    let row = [window([0, 1, 0], [3, 1, 0])];
+    assert!(rt; plane(alloc, &ZTree::<2, 2>, &row, 2, 2, &[(2, 3), (6, 7)]));
+    let inner = [window([3, 5, 0], [9, 12, 0])];
+    assert!(rt;
+        plane(
+            alloc,
+            &ZTree::<2, 4>,
+            &inner,
+            12,
+            3,
+            &[
+                (36, 39),
+                (44, 63),
+                (96, 99),
+                (104, 107),
+                (132, 135),
+                (140, 159),
+                (164, 167),
+                (176, 183),
+                (192, 195),
+                (200, 203),
+                (224, 227)
+            ]
+        )
+    );
+    let two = [window([3, 5, 0], [4, 6, 0]), window([12, 0, 0], [15, 3, 0])];
+    assert!(rt; plane(alloc, &ZTree::<2, 4>, &two, 2, 2, &[(32, 63), (80, 95)]));
+    assert!(rt;
+        plane(
+            alloc,
+            &ZTree::<2, 4>,
+            &two,
+            5,
+            4,
+            &[(39, 39), (45, 45), (50, 50), (56, 56), (80, 95)]
+        )
+    );
+    let middle = [window([1, 2, 0], [1, 2, 0])];
+    assert!(rt;
+        plane(
+            alloc,
+            &XzTree::<2, 2>,
+            &middle,
+            3,
+            2,
+            &[(0, 1), (4, 5), (11, 13)]
+        )
+    );
+}
+
+#[test]
+fn splits_space_as_enumerated(rt: HostRuntime) {
+    let alloc = rt.alloc();
+    let edge = [window([0, 1, 0], [0, 1, 1])];
+    assert!(rt; space(alloc, &ZTree::<3, 1>, &edge, 2, 1, &[(2, 2), (6, 6)]));
+    let two = [window([0, 3, 1], [0, 3, 2]), window([2, 0, 0], [3, 1, 0])];
+    assert!(rt; space(alloc, &ZTree::<3, 2>, &two, 2, 1, &[(8, 23), (48, 55)]));
+    assert!(rt;
+        space(
+            alloc,
+            &ZTree::<3, 2>,
+            &two,
+            3,
+            2,
+            &[(8, 11), (22, 22), (50, 50)]
+        )
+    );
+    let corner = [window([0, 1, 3], [0, 1, 3])];
+    assert!(rt;
+        space(
+            alloc,
+            &XzTree::<3, 2>,
+            &corner,
+            6,
+            2,
+            &[(0, 1), (37, 38), (40, 40), (42, 42), (44, 44)]
+        )
+    );
+}
+
+// Whether the cells on both sides of the middle of x, at the origin of the rest, are these two codes.
+fn middle_of_plane<T: Tree<2>>(
+    alloc: Global,
+    tree: &T,
+    middle: u32,
+    level: u32,
+    low: u64,
+    high: u64,
+) -> bool
+    requires size { T.IsAllowed tree.now }
+    requires middle { 1 ≤ middle }
+{
+    let windows = [window([middle - 1, 0, 0], [middle, 0, 0])];
+    plane(
+        alloc,
+        tree,
+        &windows,
+        16,
+        level,
+        &[(low, low), (high, high)],
+    )
+}
+
+// Whether the codes whose reach has the cell at the origin are those from 0 to the depth.
+fn origin_of_plane<T: Tree<2>>(alloc: Global, tree: &T, depth: u32) -> bool
+    requires { T.IsAllowed tree.now }
+{
+    let windows = [window([0, 0, 0], [0, 0, 0])];
+    plane(alloc, tree, &windows, 16, depth, &[(0, u64::from(depth))])
+}
+
+#[test]
+fn splits_plane_by_each_tree(rt: HostRuntime) {
+    let alloc = rt.alloc();
+    assert!(rt; middle_of_plane(alloc, &ZTree::<2, 8>, 128, 8, 5461, 16384));
+    assert!(rt; middle_of_plane(alloc, &ZTree::<2, 16>, 32768, 16, 357913941, 1073741824));
+    assert!(rt;
+        middle_of_plane(
+            alloc,
+            &ZTree::<2, 24>,
+            8388608,
+            24,
+            23456248059221,
+            70368744177664
+        )
+    );
+    assert!(rt;
+        middle_of_plane(
+            alloc,
+            &ZTree::<2, 31>,
+            1073741824,
+            31,
+            384307168202282325,
+            1152921504606846976
+        )
+    );
+    assert!(rt; origin_of_plane(alloc, &XzTree::<2, 4>, 4));
+    assert!(rt; origin_of_plane(alloc, &XzTree::<2, 8>, 8));
+    assert!(rt; origin_of_plane(alloc, &XzTree::<2, 12>, 12));
+    assert!(rt; origin_of_plane(alloc, &XzTree::<2, 16>, 16));
+}
+
+// Whether the cells on both sides of the middle of x, at the origin of the rest, are these two codes.
+fn middle_of_space<T: Tree<3>>(
+    alloc: Global,
+    tree: &T,
+    middle: u32,
+    level: u32,
+    low: u64,
+    high: u64,
+) -> bool
+    requires size { T.IsAllowed tree.now }
+    requires middle { 1 ≤ middle }
+{
+    let windows = [window([middle - 1, 0, 0], [middle, 0, 0])];
+    space(
+        alloc,
+        tree,
+        &windows,
+        16,
+        level,
+        &[(low, low), (high, high)],
+    )
+}
+
+// Whether the codes whose reach has the cell at the origin are those from 0 to the depth.
+fn origin_of_space<T: Tree<3>>(alloc: Global, tree: &T, depth: u32) -> bool
+    requires { T.IsAllowed tree.now }
+{
+    let windows = [window([0, 0, 0], [0, 0, 0])];
+    space(alloc, tree, &windows, 16, depth, &[(0, u64::from(depth))])
+}
+
+#[test]
+fn splits_space_by_each_tree(rt: HostRuntime) {
+    let alloc = rt.alloc();
+    assert!(rt; middle_of_space(alloc, &ZTree::<3, 8>, 128, 8, 299593, 2097152));
+    assert!(rt; middle_of_space(alloc, &ZTree::<3, 12>, 2048, 12, 1227133513, 8589934592));
+    assert!(rt;
+        middle_of_space(
+            alloc,
+            &ZTree::<3, 16>,
+            32768,
+            16,
+            5026338869833,
+            35184372088832
+        )
+    );
+    assert!(rt;
+        middle_of_space(
+            alloc,
+            &ZTree::<3, 21>,
+            1048576,
+            21,
+            164703072086692425,
+            1152921504606846976
+        )
+    );
+    assert!(rt; origin_of_space(alloc, &XzTree::<3, 4>, 4));
+    assert!(rt; origin_of_space(alloc, &XzTree::<3, 8>, 8));
+    assert!(rt; origin_of_space(alloc, &XzTree::<3, 12>, 12));
+    assert!(rt; origin_of_space(alloc, &XzTree::<3, 16>, 16));
+}
+
+#[test]
+fn answers_nothing_to_no_window(rt: HostRuntime) {
+    let alloc = rt.alloc();
+    assert!(rt; plane(alloc, &ZTree::<2, 31>, &[], 1, 31, &[]));
+    assert!(rt; space(alloc, &XzTree::<3, 4>, &[], 2, 4, &[]));
 }

@@ -1,4 +1,4 @@
-use Rattle.gm_split.proofs.tests.counts_the_own_codes_of_extents.Given as goal
+use Rattle.gm_split.proofs.tests.plane.Given as goal
 
 abbrev pub ghosts-split_in_plane : goal.ghosts-split_in_plane
 ghosts-split_in_plane g a = record { name = a.blank.name; parts = a.blank.parts }
