@@ -3,7 +3,7 @@ use Rattle.std.proofs.Common.{◌≡◌, Bool, true, false, ◌&&◌, not, pos, 
 use Rattle.std.proofs.Math.IntN.{zero-*ℤ, *ℤ-zero}
 use Rattle.std.specs.Prelude.{int_le, int_lt}
 use Rattle.std.specs.List.{count_by}
-use Rattle.std.proofs.lemmas.Bool.{and_from, or_left, or_right}
+use Rattle.std.proofs.lemmas.Bool.{and_parts, and_from, or_left, or_right}
 use Rattle.std.proofs.lemmas.Bool.Decides.{Decides-int_eq}
 use Rattle.std.proofs.lemmas.Int.{ints, clamps}
 use Rattle.gm_geom.specs.declared.place.Point.{Point}
@@ -17,7 +17,7 @@ use Rattle.gm_shapes.specs.Segment.{segment, side_of, box_of, reaches, do_overla
 use Rattle.gm_shapes.specs.Edge.{lone_edge}
 use Rattle.gm_shapes.specs.Polygon.{is_on_edge, is_around, is_in_polygon, is_odd, crosses}
 use Rattle.gm_shapes.specs.Meeting.{is_in_any, has_edge_on, has_vertex_in, do_intersect, box_area, box_ring, low_right, high_left}
-use Rattle.gm_shapes.proofs.Boxes.{reaches_in}
+use Rattle.gm_shapes.proofs.Boxes.{Reaches, reaches_in, reaches_out}
 use Rattle.gm_shapes.proofs.Sides.{left_of, right_of}
 use Rattle.gm_shapes.proofs.Bounding.{no_way, lone_side, upright_side, not_beside, on_left_edge}
 
@@ -151,3 +151,11 @@ point_meets_box p box at =
     or_right (has_edge_on (geo.Point p) (box_area box)) _
     (or_left (has_vertex_in (geo.Point p) (box_area box)) (has_vertex_in (box_area box) (geo.Point p))
     (or_left (is_in_any (areas_of (box_area box)) p) false (or_left (is_in_polygon p (box_ring box ∷ [])) false (in_polygon box p at))))
+
+-- a box of one point that overlaps another box has its point there
+pub in_box_by_overlap : (p : Point) (box : Box2) → do_overlap (record { low = p; high = p }) box ≡ true → IsInBox box p
+in_box_by_overlap p box e =
+    let both : (reaches (record { low = p; high = p }) box ≡ true) × (reaches box (record { low = p; high = p }) ≡ true) = and_parts _ _ e in
+    let under : Reaches (record { low = p; high = p }) box = reaches_out (record { low = p; high = p }) box both.0 in
+    let over : Reaches box (record { low = p; high = p }) = reaches_out box (record { low = p; high = p }) both.1 in
+    record { left = over.across; right = under.across; below = over.along; above = under.along }

@@ -74,7 +74,7 @@ pub record Reaches (b c : Box2) : Type 0 where
   pub across : b.low.x ≤ℤ c.high.x
   pub along : b.low.y ≤ℤ c.high.y
 
-reaches_out : (b c : Box2) → reaches b c ≡ true → Reaches b c
+pub reaches_out : (b c : Box2) → reaches b c ≡ true → Reaches b c
 reaches_out b c e =
     let h : (int_le b.low.x c.high.x ≡ true) × (int_le b.low.y c.high.y ≡ true) = and_parts _ _ e in record {
       across = omega (arith, ints, h.0);

@@ -1,6 +1,8 @@
 -- Geometries that meet have bounds that overlap.
 use Rattle.std.proofs.Common.{◌≡◌, Bool, true, false, ◌||◌, if◌then◌else◌, ◌≤ℤ◌, List, [], ◌∷◌, Some, None, refl, sym, ◌∙◌}
-use Rattle.std.proofs.Common.{inl, inr}
+use Rattle.std.proofs.Common.{inl, inr, arith}
+use Rattle.std.proofs.lemmas.Int.{ints}
+use Rattle.gm_geom.specs.declared.geometry.Geometry.TheVariants as geo
 use Rattle.std.specs.List.{list_all, AllByRecursion}
 use Rattle.std.proofs.lemmas.Bool.{and_parts, and_from, or_cases, not-false, both_ways, false_from_ne_true}
 use Rattle.std.proofs.lemmas.List.Folds.{list_all-append}
@@ -19,7 +21,7 @@ use Rattle.gm_shapes.proofs.Found.{Passing, found, all_both}
 use Rattle.gm_shapes.proofs.Boxes.{IsEdgeIn, HoldsEdges, edges_in, areas_in, overlap_by_edges, overlap_by_point}
 use Rattle.gm_shapes.proofs.Crossings.{around_in_box}
 use Rattle.gm_shapes.proofs.Swaps.{overlap_swap}
-use Rattle.gm_shapes.proofs.BoxArea.{ring_closed, holds_corners}
+use Rattle.gm_shapes.proofs.BoxArea.{ring_closed, holds_corners, point_meets_box, in_box_by_overlap}
 
 -- a geometry that is kept has closed rings
 fourth : (a b c d : Bool) → (if a then Some Many else (if b then Some Range else (if c then Some Short else (if d then Some Ring else None)))) ≡ None → d ≡ false
@@ -84,3 +86,22 @@ overlap_box geometry b box kept hb across along =
 
 pub apart : (one two : Geometry) (b c : Box2) → fault_of one ≡ None → fault_of two ≡ None → HoldsAll b (points_of one) → HoldsAll c (points_of two) → do_overlap b c ≡ false → do_intersect one two ≡ false
 apart one two b c kept1 kept2 hb hc e = false_from_ne_true (do_intersect one two) (λ met. both_ways (do_overlap b c) e (overlap one two b c kept1 kept2 hb hc met))
+
+pub apart_box : (geometry : Geometry) (b box : Box2) → fault_of geometry ≡ None → HoldsAll b (points_of geometry) → box.low.x ≤ℤ box.high.x → box.low.y ≤ℤ box.high.y → do_overlap b box ≡ false → do_intersect geometry (box_area box) ≡ false
+apart_box geometry b box kept hb across along e =
+    false_from_ne_true (do_intersect geometry (box_area box)) (λ met. both_ways (do_overlap b box) e (overlap_box geometry b box kept hb across along met))
+
+abbrev place : Point → Box2
+place p = record { low = p; high = p }
+
+point_cases : (p : Point) (box : Box2) (t : Bool) → do_overlap (place p) box ≡ t → box.low.x ≤ℤ box.high.x → box.low.y ≤ℤ box.high.y → t ≡ do_intersect (geo.Point p) (box_area box)
+point_cases p box true e across along = sym (point_meets_box p box (in_box_by_overlap p box e))
+point_cases p box false e across along =
+    let none : p.x ≤ℤ p.x = omega (arith, ints) in
+    let flat : p.y ≤ℤ p.y = omega (arith, ints) in
+    let held : HoldsAll (place p) (p ∷ []) = (record { left = none; right = none; below = flat; above = flat }, tt) in
+    sym (false_from_ne_true (do_intersect (geo.Point p) (box_area box)) (λ met. both_ways (do_overlap (place p) box) e (overlap_closed (geo.Point p) (box_area box) (place p) box tt (and_from _ _ (ring_closed box) refl, tt) held (holds_corners box across along) met)))
+
+-- a point meets a closed box where it lies in it
+pub point_in_box : (p : Point) (box : Box2) → box.low.x ≤ℤ box.high.x → box.low.y ≤ℤ box.high.y → do_overlap (place p) box ≡ do_intersect (geo.Point p) (box_area box)
+point_in_box p box across along = point_cases p box (do_overlap (place p) box) refl across along

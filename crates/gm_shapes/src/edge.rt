@@ -89,7 +89,7 @@ pub(crate) fn any_between_all<S: Shape>(shape: &S, lines: &[Points]) -> bool
     false
 }
 
-fn any_between<S: Shape>(shape: &S, points: &[Point]) -> bool
+pub(crate) fn any_between<S: Shape>(shape: &S, points: &[Point]) -> bool
     ensures { result ≡ list_any (S.met shape.now) (edges_between points.now) }
 {
     match points {

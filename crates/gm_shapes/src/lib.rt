@@ -1,6 +1,7 @@
 //! Exact tests on geometries: whether they meet, and whether a point lies within one.
 #![tactic(auto)]
 
+mod closed_box;
 mod edge;
 mod laws;
 mod meeting;
@@ -8,7 +9,9 @@ mod polygon;
 mod segment;
 #[cfg(test)]
 mod tests;
+mod vertex;
 
+pub use closed_box::meets_box;
 pub use laws::{
     meeting_is_symmetric, meets_its_box, meets_where_in_box, meets_where_within,
     overlaps_a_box_it_meets, overlaps_where_meeting,

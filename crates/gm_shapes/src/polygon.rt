@@ -37,7 +37,7 @@ pub(crate) fn is_around(p: Point, rings: &[Points]) -> bool
     odd
 }
 
-fn crosses_oddly(p: Point, ring: &[Point]) -> bool
+pub(crate) fn crosses_oddly(p: Point, ring: &[Point]) -> bool
     ensures { result ≡ is_odd (count_by (crosses p) (edges_between ring.now)) }
 {
     match ring {

@@ -1,7 +1,7 @@
 // What no clause says: values from outside.
-use crate::{in_area, intersects, on_edge, segments_meet, within};
+use crate::{in_area, intersects, meets_box, on_edge, segments_meet, within};
 use gm_base::Items;
-use gm_geom::{Areas, Geometry, Point, Points, Rings, check};
+use gm_geom::{Areas, Box2, Geometry, Point, Points, Rings, check};
 use std::alloc::Global;
 use std::test::Fail;
 
@@ -146,6 +146,44 @@ fn tells_squares_in_a_hole(rt: HostRuntime) -> Result<(), Fail> {
     let filled = Geometry::Area(lists(alloc, &[&SQUARE])?);
     assert_eq!(rt; meet(&filled, &inner), Some(true));
     assert_eq!(rt; meet(&inner, &filled), Some(true));
+    Ok(())
+}
+
+// None where the geometry is not kept or the corners are in another order.
+fn meet_box(one: &Geometry, low: Corner, high: Corner) -> Option<bool> {
+    let area = Box2 {
+        low: at(low),
+        high: at(high),
+    };
+    if area.low.x > area.high.x || area.low.y > area.high.y {
+        return None;
+    }
+    match check(one) {
+        Ok(()) => Some(meets_box(one, area)),
+        Err(_) => None,
+    }
+}
+
+#[test]
+fn tells_what_meets_a_box(rt: HostRuntime) -> Result<(), Fail> {
+    let alloc = rt.alloc();
+    let holed = Geometry::Area(lists(alloc, &[&SQUARE, &HOLE])?);
+    let line = Geometry::Line(points(alloc, &[(-20, -20), (20, 20)])?);
+    let point = Geometry::Point(at((4, 6)));
+    let boxes: [(&Geometry, Corner, Corner, bool); 9] = [
+        (&holed, (4, 4), (6, 6), false),
+        (&holed, (2, 4), (6, 6), true),
+        (&holed, (9, 4), (9, 5), true),
+        (&line, (-11, -11), (-9, -9), true),
+        (&line, (-11, 5), (-9, 6), false),
+        (&line, (0, 0), (0, 0), true),
+        (&point, (4, 4), (6, 6), true),
+        (&point, (4, 6), (4, 6), true),
+        (&point, (5, 4), (6, 6), false),
+    ];
+    for (one, low, high, meeting) in boxes {
+        assert_eq!(rt; meet_box(one, low, high), Some(meeting));
+    }
     Ok(())
 }
 
