@@ -2,6 +2,7 @@ mod Answered
 mod Below
 mod Covering
 mod Decomposed
+mod Joins
 mod Near
 mod Nodes
 mod Parts

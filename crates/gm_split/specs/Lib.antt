@@ -1,4 +1,5 @@
 pub mod Explained
+pub mod Joining
 pub mod Levels
 pub mod Near
 pub mod Opening

@@ -7,6 +7,7 @@ ghost use Rattle.gm_split.specs.Opening.{piece_of};
 ghost use Rattle.gm_split.specs.RunLaws.{RunLaws};
 
 use crate::Split;
+use crate::joining::join;
 use crate::opening::{count_partial, open_all, piece_of, runs_of};
 use crate::pieces::Piece;
 use gm_base::NoMemory;
@@ -74,7 +75,8 @@ fn reach_stop<const D: usize, T: Tree<D>, L: Ledger>(
         if more.count() > target as usize {
             return Ok(Split { runs, level });
         }
-        pieces = next;
+        let joined = join(alloc, &next)?;
+        pieces = joined;
         runs = more;
         level += 1;
     }

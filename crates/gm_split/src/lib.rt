@@ -8,6 +8,7 @@
 #![tactic(auto)]
 
 mod answer;
+mod joining;
 mod laws;
 mod levels;
 mod opening;

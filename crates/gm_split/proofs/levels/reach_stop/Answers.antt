@@ -1,8 +1,10 @@
-use Rattle.std.proofs.Common.{◌≡◌, ◌<◌, ◌≤◌, ◌*◌, ◌^◌, length, subst, sym, ap, ◌∙◌, arith}
+use Rattle.std.proofs.Common.{◌≡◌, ◌<◌, ◌≤◌, ◌+◌, ◌*◌, ◌^◌, length, subst, sym, ap, ◌∙◌, arith}
 use Rattle.std.specs.Prelude.{All}
 use Rattle.gm_runs.specs.Runs.{AreMaximalRuns}
 use Rattle.gm_split.specs.Opening.{opened_all, partials, ends, Covers, IsComing}
-use Rattle.gm_split.proofs.Stop.{reached_start, reached_runs, reached_end, reached_next, stops_at_partial, stops_at_runs, next_rise, next_come, level_steps}
+use Rattle.gm_split.specs.Joining.{joined}
+use Rattle.gm_split.proofs.Joins.{reached_joined}
+use Rattle.gm_split.proofs.Stop.{Reached, reached_start, reached_runs, reached_end, reached_next, stops_at_partial, stops_at_runs, next_rise, next_come, level_steps}
 use Rattle.gm_split.proofs.levels.reach_stop.Goals as goal
 
 pub loop-level-init : goal.loop-level-init
@@ -31,10 +33,12 @@ loop-level-preserved g c =
     let e = ap partials c.deref-in-loop-level-2.ensures.value in
     let partial : partials c.in_ok-next.next.items ≤ 4 * c.args.target = omega (arith, c.count_partial.ensures, c.if-count_partial-target.false, e) in
     let f = ap (λ xs. 2 ^ D * partials xs) c.deref-in-loop-level.ensures.value in
+    let all = reached_next D s ws (g.T.Tree.Comes c.args.tree.now) tree before.laws c.args.target c.loop-level.level c.loop-level.pieces.items c.loop-level.runs before.reached more c.in_ok-next.next.items at c.in_ok-more.more runs few partial in
+    let same : c.in_ok-joined.joined.items ≡ joined c.in_ok-next.next.items = c.in_ok-joined.ensures ∙ ap joined c.deref-in-loop-level-4.ensures.value in
     record {
       laws = before.laws;
       depth = before.depth;
-      reached = reached_next D s ws (g.T.Tree.Comes c.args.tree.now) tree before.laws c.args.target c.loop-level.level c.loop-level.pieces.items c.loop-level.runs before.reached more c.in_ok-next.next.items at c.in_ok-more.more runs few partial;
+      reached = subst (λ xs. Reached D s ws (g.T.Tree.Comes c.args.tree.now) c.args.target (c.loop-level.level + 1) xs c.in_ok-more.more) (sym same) (reached_joined D s ws (g.T.Tree.Comes c.args.tree.now) c.args.target (c.loop-level.level + 1) c.in_ok-next.next.items c.in_ok-more.more all);
       steps = omega (arith, c.in_ok-next.ensures.steps, f, before.steps, level_steps c.loop-level.level (2 ^ D) (partials c.loop-level.pieces.items) (4 * c.args.target) before.reached.partial);
     }
 
