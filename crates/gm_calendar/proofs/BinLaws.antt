@@ -8,7 +8,7 @@ use Rattle.gm_calendar.specs.declared.place.Place.{Place}
 use Rattle.gm_calendar.specs.declared.period.Period.TheVariants.{Day, Week, Month, Year}
 use Rattle.gm_calendar.specs.Calendar.{days_of_month, days_of_year, span_at}
 use Rattle.gm_calendar.specs.Instant.{day_ms}
-use Rattle.gm_calendar.specs.Period.{last_of, unit_of, span_of_lem}
+use Rattle.gm_calendar.specs.Period.{last_of, unit_of, longest_of}
 use Rattle.gm_calendar.specs.Place.{IsPlace}
 use Rattle.gm_calendar.specs.Bin.{month_at, days_of_bin, bin_start, ms_of_bin, bin_at, IsBinOf, HasNoBin}
 
@@ -19,14 +19,14 @@ days_of_year_bound : (y : ℕ) → days_of_year y ≤ 366
 days_of_year_bound y = grind arith
 
 -- no bin is longer than the period's span
-pub bin_within_span : (period : Period) (n : ℕ) → days_of_bin period n * day_ms ≤ span_of_lem period * unit_of period
+pub bin_within_span : (period : Period) (n : ℕ) → days_of_bin period n * day_ms ≤ longest_of period * unit_of period
 bin_within_span Day n = omega arith
 bin_within_span Week n = omega arith
 bin_within_span Month n = omega (arith, days_of_month_bound (month_at n).year (month_at n).month)
 bin_within_span Year n = omega (arith, days_of_year_bound (1970 + n))
 
 -- so an offset is below it
-pub rest_within_span : (period : Period) (n rest : ℕ) → rest < days_of_bin period n * day_ms → rest / unit_of period < span_of_lem period
+pub rest_within_span : (period : Period) (n rest : ℕ) → rest < days_of_bin period n * day_ms → rest / unit_of period < longest_of period
 rest_within_span Day n rest h = omega (arith, bin_within_span Day n)
 rest_within_span Week n rest h = omega (arith, bin_within_span Week n)
 rest_within_span Month n rest h = omega (arith, bin_within_span Month n)

@@ -8,7 +8,7 @@ use Rattle.gm_calendar.specs.declared.period.Period.{Period}
 use Rattle.gm_calendar.specs.declared.period.Period.TheVariants.{Day, Week, Month, Year}
 use Rattle.gm_calendar.specs.Calendar.{span_at}
 use Rattle.gm_calendar.specs.Instant.{day_ms}
-use Rattle.gm_calendar.specs.Period.{last_of, unit_of, span_of_lem}
+use Rattle.gm_calendar.specs.Period.{last_of, unit_of, longest_of}
 use Rattle.gm_calendar.specs.Place.{IsPlace}
 use Rattle.gm_calendar.specs.Bin.{days_of_bin, bin_start, ms_of_bin, first_ms, last_ms, ms_since, bin_from, bin_at, IsBinOf, HasNoBin, HasNumber, LiesIn, IsNotAfter}
 use Rattle.gm_calendar.proofs.BinLaws.{AreStarts, ms_starts, passes, fails, bin_start_mono, bin_start-next, bin_from_place, bin_at_place, rest_within_span}
@@ -86,11 +86,11 @@ since_below period at bin is =
     let high = is.not_ended in
     omega (arith, signed_arith, one_part (at -ℤ first_ms period bin.number))
 
-offset_below : (period : Period) (at : ℤ) (found : Option Bin) → MatchOption found (HasNoBin period at) (IsBinOf period at) → IfSome found (λ bin. bin.offset < span_of_lem period)
+offset_below : (period : Period) (at : ℤ) (found : Option Bin) → MatchOption found (HasNoBin period at) (IsBinOf period at) → IfSome found (λ bin. bin.offset < longest_of period)
 offset_below period at None h = search rules
 offset_below period at (Some bin) h = rw h.offset_is (rest_within_span period bin.number _ (since_below period at bin h))
 
-pub bin_at-offset : (period : Period) (at : ℤ) → IfSome (bin_at period at) (λ bin. bin.offset < span_of_lem period)
+pub bin_at-offset : (period : Period) (at : ℤ) → IfSome (bin_at period at) (λ bin. bin.offset < longest_of period)
 bin_at-offset period at = offset_below period at (bin_at period at) (bin_at-tells period at)
 
 -- a bin ends before each later one starts

@@ -18,8 +18,8 @@ unit_of Month = 1_000
 unit_of Year = 60_000
 
 -- the length of its longest bin, in that unit
-abbrev pub span_of_lem : Period → ℕ
-span_of_lem Day = 86_400_000
-span_of_lem Week = 604_800
-span_of_lem Month = 2_678_400
-span_of_lem Year = 527_040
+abbrev pub longest_of : Period → ℕ
+longest_of Day = 86_400_000
+longest_of Week = 604_800
+longest_of Month = 2_678_400
+longest_of Year = 527_040

@@ -2,7 +2,7 @@
 ghost use Rattle.std.specs.Prelude.{◌≡◌, ◌↔◌, ℕ, ℤ, ◌<◌, ◌≤◌, ◌<ℤ◌, ◌≤ℤ◌, IfSome, MatchOption};
 ghost use Rattle.gm_calendar.specs.Bin.{first_ms, last_ms, bin_at, HasNumber, LiesIn, IsBinOf, IsNotAfter, HasNoBin};
 ghost use Rattle.gm_calendar.specs.declared.bin.Bin.{Bin};
-ghost use Rattle.gm_calendar.specs.Period.{last_of, span_of_lem};
+ghost use Rattle.gm_calendar.specs.Period.{last_of, longest_of};
 
 use crate::calendar::DAY_MS;
 use crate::extent::extent_of;
@@ -21,7 +21,7 @@ pub struct Bin {
 pub fn bin_of(period: Period, at: Instant) -> Option<Bin>
     ensures by_starts { MatchOption result (HasNoBin period at) (IsBinOf period at) }
     ensures value { result ≡ bin_at period at }
-    ensures offset { IfSome result (λ bin. bin.offset < span_of_lem period) }
+    ensures offset { IfSome result (λ bin. bin.offset < longest_of period) }
 {
     let ms = at.ms();
     if ms < 0 {
@@ -56,7 +56,7 @@ pub fn bins_follow_time(period: Period)
     ensures by_starts { (at : ℤ) → MatchOption (bin_at period at) (HasNoBin period at) (IsBinOf period at) }
     ensures span { (at : ℤ) (number : ℕ) → number ≤ last_of period
         → HasNumber period at number ↔ LiesIn period at number }
-    ensures offset { (at : ℤ) → IfSome (bin_at period at) (λ bin. bin.offset < span_of_lem period) }
+    ensures offset { (at : ℤ) → IfSome (bin_at period at) (λ bin. bin.offset < longest_of period) }
     ensures starts { (number later : ℕ) → number < later
         → last_ms period number <ℤ first_ms period later }
     ensures order { (earlier later : ℤ) (a b : Bin) → earlier ≤ℤ later

@@ -1,6 +1,6 @@
 // Periods: the lengths of bins.
 ghost use Rattle.std.specs.Prelude.{◌≡◌};
-ghost use Rattle.gm_calendar.specs.Period.{last_of, span_of_lem, unit_of};
+ghost use Rattle.gm_calendar.specs.Period.{last_of, longest_of, unit_of};
 
 /// What a bin is: a day, a week from Thursday on, a month or a year, in UTC.
 #[derive(Clone, Copy, Debug, PartialEq, Eq)]
@@ -30,7 +30,7 @@ pub fn last_bin(period: Period) -> u16
 
 /// The length of the longest bin, in the unit of the period's offsets.
 pub fn span_of(period: Period) -> u64
-    ensures { result ≡ span_of_lem period }
+    ensures { result ≡ longest_of period }
 {
     match period {
         Period::Day => 86_400_000,

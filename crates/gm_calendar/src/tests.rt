@@ -45,8 +45,11 @@ fn ends_with_the_last_bin(rt: HostRuntime) {
         assert_eq!(rt; bin_at(period, b"1970-01-01"), Some((0, 0)));
         let (first, last) = bin_span(period, last_bin(period));
         assert!(rt; first < last);
-        assert!(rt; u64::from(last_bin(period)) < span_of(period));
     }
+    assert_eq!(rt; span_of(Period::Day), 86_400_000);
+    assert_eq!(rt; span_of(Period::Week), 604_800);
+    assert_eq!(rt; span_of(Period::Month), 2_678_400);
+    assert_eq!(rt; span_of(Period::Year), 527_040);
     assert_eq!(rt; bin_span(Period::Week, 1), (604_800_000, 1_209_599_999));
     assert_eq!(rt; bin_span(Period::Month, 1), (2_678_400_000, 5_097_599_999));
     assert_eq!(rt;
