@@ -1,5 +1,6 @@
 -- What the calls of the outside do.
-use Rattle.std.specs.Prelude.{◌≡◌, ◌≤◌, ◌⊎◌, ℕ, List, [], ◌++◌, Option, Some}
+use Rattle.std.specs.Prelude.{◌≡◌, ◌≤◌, ◌⊎◌, ℕ, List, [], ◌++◌, Option, Some, Bool, nat_eq}
+use Rattle.std.specs.List.{list_any}
 use Rattle.std.specs.Option.{ForSome}
 use Rattle.std.specs.Ordering.{nat_cmp}
 use Rattle.std.specs.Cmp.Lexicographic.{slice_cmp}
@@ -13,6 +14,10 @@ Files = files.FinMap (slice_cmp nat_cmp) (List ℕ)
 -- a count of faults is greater, or stands at the greatest u64
 abbrev pub Rose : ℕ → ℕ → Type 0
 Rose before after = capped_sum before 1 ≤ after
+
+-- a number is one of these
+abbrev pub is_among : ℕ → List ℕ → Bool
+is_among n numbers = list_any (λ m. nat_eq m n) numbers
 
 -- of these bytes the first were given and the others are left; none is given only at the end
 pub record Gives (bytes given : List ℕ) (left : Option (List ℕ)) : Type 0 where

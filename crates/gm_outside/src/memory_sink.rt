@@ -1,6 +1,7 @@
 // A sink in memory.
-ghost use Rattle.std.specs.Prelude.{◌≡◌, ◌≤◌, ◌<◌, Some, length, [], true};
-ghost use Rattle.gm_outside.specs.Outside.{Rose};
+ghost use Rattle.std.specs.Prelude.{◌≡◌, ◌≤◌, ◌<◌, ◌↔◌, ◌++◌, Some, length, take, min, [], true, IfOk, OnOk, OnErr, IsErrOf, is_err};
+ghost use Rattle.gm_base.specs.Counter.{capped_sum};
+ghost use Rattle.gm_outside.specs.Outside.{Rose, is_among};
 
 use crate::{Failed, Sink, SinkRefusal};
 use std::alloc::Global;
@@ -25,6 +26,9 @@ impl MemorySink {
         requires { 0 < piece }
         ensures written { ⟦<MemorySink as Sink>⟧.written result ≡ Some [] }
         ensures faults { ⟦<MemorySink as Sink>⟧.faults result ≡ 0 }
+        ensures piece { result.piece ≡ piece }
+        ensures calls { result.calls ≡ 0 }
+        ensures failing { result.failing ≡ failing }
     {
         MemorySink {
             bytes: Vec::new(alloc),
@@ -51,7 +55,9 @@ impl MemorySink {
     }
 
     /// The number of calls of `write` and `flush` so far.
-    pub fn calls(&self) -> u64 {
+    pub fn calls(&self) -> u64
+        ensures { result ≡ self.now.calls }
+    {
         self.calls
     }
 
@@ -61,6 +67,10 @@ impl MemorySink {
         ensures flushed { self.new.flushed ≡ self.old.flushed }
         ensures cause { result ≡ true → Rose self.old.faults self.new.faults }
         ensures later { self.old.faults ≤ self.new.faults }
+        ensures told { result ≡ is_among self.old.calls self.old.failing.items }
+        ensures calls { self.new.calls ≡ capped_sum self.old.calls 1 }
+        ensures piece { self.new.piece ≡ self.old.piece }
+        ensures failing { self.new.failing ≡ self.old.failing }
     {
         let call = self.calls;
         self.calls = call.saturating_add(1);
@@ -79,7 +89,22 @@ impl Sink for MemorySink {
 
     ghost faults = { λ s. s.faults };
 
-    fn write(&mut self, _alloc: Global, from: &[u8]) -> Result<usize, SinkRefusal> {
+    fn write(&mut self, _alloc: Global, from: &[u8]) -> Result<usize, SinkRefusal>
+        requires { 0 < length from.now }
+        ensures some { IfOk result (λ n. 0 < n) }
+        ensures bytes { IfOk result (λ n. self.new.bytes.items ≡ self.old.bytes.items ++ take n from.now) }
+        ensures err { OnErr result (self.new.bytes.items ≡ self.old.bytes.items) }
+        ensures flushed { self.new.flushed ≡ self.old.flushed }
+        ensures cause { IsErrOf result SinkRefusal.Failed → Rose self.old.faults self.new.faults }
+        ensures later { self.old.faults ≤ self.new.faults }
+
+        // How it is cut and failed.
+        ensures size { IfOk result (λ n. n ≡ min self.old.piece (length from.now)) }
+        ensures fails { IsErrOf result SinkRefusal.Failed ↔ (is_among self.old.calls self.old.failing.items ≡ true) }
+        ensures calls { self.new.calls ≡ capped_sum self.old.calls 1 }
+        ensures piece { self.new.piece ≡ self.old.piece }
+        ensures failing { self.new.failing ≡ self.old.failing }
+    {
         if self.fails() {
             return Err(SinkRefusal::Failed);
         }
@@ -90,7 +115,19 @@ impl Sink for MemorySink {
         Ok(n)
     }
 
-    fn flush(&mut self) -> Result<(), Failed> {
+    fn flush(&mut self) -> Result<(), Failed>
+        ensures ok { OnOk result (self.new.flushed ≡ length self.old.bytes.items) }
+        ensures err { OnErr result (self.new.flushed ≡ self.old.flushed) }
+        ensures bytes { self.new.bytes ≡ self.old.bytes }
+        ensures cause { OnErr result (Rose self.old.faults self.new.faults) }
+        ensures later { self.old.faults ≤ self.new.faults }
+
+        // How it is failed.
+        ensures fails { is_err result ≡ is_among self.old.calls self.old.failing.items }
+        ensures calls { self.new.calls ≡ capped_sum self.old.calls 1 }
+        ensures piece { self.new.piece ≡ self.old.piece }
+        ensures failing { self.new.failing ≡ self.old.failing }
+    {
         if self.fails() {
             return Err(Failed);
         }

@@ -1,5 +1,8 @@
 // A source in memory.
-ghost use Rattle.std.specs.Prelude.{◌≡◌, ◌≤◌, ◌<◌, Some, drop, length};
+ghost use Rattle.std.specs.Prelude.{◌≡◌, ◌≤◌, ◌<◌, Some, take, drop, length, min, IfOk, OnErr, is_err};
+ghost use Rattle.std.specs.Option.{ForSome};
+ghost use Rattle.gm_base.specs.Counter.{capped_sum};
+ghost use Rattle.gm_outside.specs.Outside.{Rose, Gives, is_among};
 
 use crate::giving::give;
 use crate::{Failed, Source};
@@ -24,6 +27,9 @@ impl MemorySource {
         requires { 0 < piece }
         ensures left { ⟦<MemorySource as Source>⟧.left result ≡ Some bytes.items }
         ensures faults { ⟦<MemorySource as Source>⟧.faults result ≡ 0 }
+        ensures piece { result.piece ≡ piece }
+        ensures calls { result.calls ≡ 0 }
+        ensures failing { result.failing ≡ failing }
     {
         MemorySource {
             bytes,
@@ -36,7 +42,9 @@ impl MemorySource {
     }
 
     /// The number of calls of `read` so far.
-    pub fn calls(&self) -> u64 {
+    pub fn calls(&self) -> u64
+        ensures { result ≡ self.now.calls }
+    {
         self.calls
     }
 }
@@ -46,7 +54,23 @@ impl Source for MemorySource {
 
     ghost faults = { λ s. s.faults };
 
-    fn read(&mut self, into: &mut [u8]) -> Result<usize, Failed> {
+    fn read(&mut self, into: &mut [u8]) -> Result<usize, Failed>
+        requires { 0 < length into.old }
+        ensures fits { IfOk result (λ n. n ≤ length into.old) }
+        ensures bytes { IfOk result (λ n. ForSome (Some (drop self.old.at self.old.bytes.items))
+            (λ bytes. Gives bytes (take n into.new) (Some (drop self.new.at self.new.bytes.items)))) }
+        ensures err { OnErr result (self.new.at ≡ self.old.at) }
+        ensures same { self.new.bytes ≡ self.old.bytes }
+        ensures cause { OnErr result (Rose self.old.faults self.new.faults) }
+        ensures later { self.old.faults ≤ self.new.faults }
+
+        // How it is cut and failed.
+        ensures size { IfOk result (λ n. n ≡ min self.old.piece (min (length into.old) (length (drop self.old.at self.old.bytes.items)))) }
+        ensures fails { is_err result ≡ is_among self.old.calls self.old.failing.items }
+        ensures calls { self.new.calls ≡ capped_sum self.old.calls 1 }
+        ensures piece { self.new.piece ≡ self.old.piece }
+        ensures failing { self.new.failing ≡ self.old.failing }
+    {
         let call = self.calls;
         self.calls = call.saturating_add(1);
         if self.failing.contains(&call) {

@@ -1,5 +1,7 @@
 // A sink over a writer of std, such as standard output.
-ghost use Rattle.std.specs.Prelude.{◌≡◌, None};
+ghost use Rattle.std.specs.Prelude.{◌≡◌, ◌≤◌, ◌<◌, None, length, IfOk, OnErr, IsErrOf};
+ghost use Rattle.std.specs.Io.KnownBytes.{Keeps, WriteAppends};
+ghost use Rattle.gm_outside.specs.Outside.{Rose};
 
 use crate::{Failed, Sink, SinkRefusal};
 use std::alloc::Global;
@@ -15,7 +17,8 @@ pub struct StreamSink<W: Write> {
 
 impl<W: Write> StreamSink<W> {
     pub fn new(writer: W) -> StreamSink<W>
-        ensures { ⟦<StreamSink<W> as Sink>⟧.faults result ≡ 0 }
+        ensures writer { result.writer ≡ writer }
+        ensures faults { ⟦<StreamSink<W> as Sink>⟧.faults result ≡ 0 }
     {
         StreamSink { writer, faults: 0 }
     }
@@ -28,7 +31,13 @@ impl<W: Write> Sink for StreamSink<W> {
 
     ghost faults = { λ s. s.faults };
 
-    fn write(&mut self, _alloc: Global, from: &[u8]) -> Result<usize, SinkRefusal> {
+    fn write(&mut self, _alloc: Global, from: &[u8]) -> Result<usize, SinkRefusal>
+        ensures some { IfOk result (λ n. 0 < n) }
+        ensures fits { IfOk result (λ n. n ≤ length from.now) }
+        ensures cause { IsErrOf result SinkRefusal.Failed → Rose self.old.faults self.new.faults }
+        ensures later { self.old.faults ≤ self.new.faults }
+        ensures writer { WriteAppends (W.contents self.old.writer) (W.contents self.new.writer) result from.now }
+    {
         match self.writer.write(from) {
             Ok(n) if n > 0 => Ok(n),
             _ => {
@@ -38,7 +47,11 @@ impl<W: Write> Sink for StreamSink<W> {
         }
     }
 
-    fn flush(&mut self) -> Result<(), Failed> {
+    fn flush(&mut self) -> Result<(), Failed>
+        ensures cause { OnErr result (Rose self.old.faults self.new.faults) }
+        ensures later { self.old.faults ≤ self.new.faults }
+        ensures writer { Keeps (W.contents self.old.writer) (W.contents self.new.writer) }
+    {
         match self.writer.flush() {
             Ok(()) => Ok(()),
             Err(_) => {

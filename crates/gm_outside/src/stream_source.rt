@@ -1,5 +1,7 @@
 // A source over a reader of std, such as standard input.
-ghost use Rattle.std.specs.Prelude.{◌≡◌, None};
+ghost use Rattle.std.specs.Prelude.{◌≡◌, ◌≤◌, None, length, IfOk, OnErr};
+ghost use Rattle.std.specs.Io.KnownBytes.{ReadConsumes};
+ghost use Rattle.gm_outside.specs.Outside.{Rose};
 
 use crate::{Failed, Source};
 use std::io::Read;
@@ -13,7 +15,8 @@ pub struct StreamSource<R: Read> {
 
 impl<R: Read> StreamSource<R> {
     pub fn new(reader: R) -> StreamSource<R>
-        ensures { ⟦<StreamSource<R> as Source>⟧.faults result ≡ 0 }
+        ensures reader { result.reader ≡ reader }
+        ensures faults { ⟦<StreamSource<R> as Source>⟧.faults result ≡ 0 }
     {
         StreamSource { reader, faults: 0 }
     }
@@ -24,7 +27,12 @@ impl<R: Read> Source for StreamSource<R> {
 
     ghost faults = { λ s. s.faults };
 
-    fn read(&mut self, into: &mut [u8]) -> Result<usize, Failed> {
+    fn read(&mut self, into: &mut [u8]) -> Result<usize, Failed>
+        ensures fits { IfOk result (λ n. n ≤ length into.old) }
+        ensures cause { OnErr result (Rose self.old.faults self.new.faults) }
+        ensures later { self.old.faults ≤ self.new.faults }
+        ensures reader { ReadConsumes (R.remaining self.old.reader) (R.remaining self.new.reader) result into.new }
+    {
         match self.reader.read(into) {
             Ok(n) => Ok(n),
             Err(_) => {

@@ -1,5 +1,4 @@
-// What no clause says: that the calls succeed, at which calls the forms in memory fail, and what the
-// adapters hand on.
+// What no clause says: that the calls succeed, and that the adapters hand on each flush and each error.
 use crate::{
     Failed, Folder, Gate, MemorySink, MemorySource, NoGate, Sink, SinkRefusal, Source,
     SteadyFolder, SteadySink, SteadySource, StreamSink, StreamSource,
@@ -7,6 +6,7 @@ use crate::{
 use gm_base::Text;
 use std::alloc::Global;
 use std::io;
+use std::io::{ErrorKind, Write};
 use std::test::Fail;
 
 // What is read in three calls.
@@ -76,6 +76,36 @@ fn writes_in_order(rt: HostRuntime) -> Result<(), Fail> {
     let mut none = StreamSink::new(io::empty());
     assert_eq!(rt; three_writes(alloc, &mut none).1, 0);
     Ok(())
+}
+
+// A writer that takes nothing, and whose flushes fail after the first.
+#[derive(Drop)]
+struct Picky {
+    flushes: u32,
+}
+
+impl Write for Picky {
+    fn write(&mut self, _buf: &[u8]) -> io::Result<usize> {
+        Err(io::Error::from(ErrorKind::Other))
+    }
+
+    fn flush(&mut self) -> io::Result<()> {
+        self.flushes = self.flushes.saturating_add(1);
+        if self.flushes > 1 {
+            return Err(io::Error::from(ErrorKind::Other));
+        }
+        Ok(())
+    }
+}
+
+#[test]
+fn hands_on_each_flush_and_each_error(rt: HostRuntime) {
+    let mut picky = Picky { flushes: 0 };
+    let mut stream = StreamSink::new(&mut picky);
+    assert_eq!(rt; stream.write(rt.alloc(), b"abc"), Err(SinkRefusal::Failed));
+    assert_eq!(rt; stream.flush(), Ok(()));
+    assert_eq!(rt; stream.flush(), Err(Failed));
+    assert_eq!(rt; picky.flushes, 2);
 }
 
 #[test]
