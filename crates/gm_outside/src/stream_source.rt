@@ -6,7 +6,8 @@ ghost use Rattle.gm_outside.specs.Outside.{Rose};
 use crate::{Failed, Source};
 use std::io::Read;
 
-/// Gives what the reader gives, and tells nothing of it. Each error of the reader is a fault.
+/// Gives what the reader gives. As a source it tells nothing of it; `read` says what the reader then has
+/// left, where the reader tells that. Each error of the reader is a fault.
 #[derive(Debug, Drop)]
 pub struct StreamSource<R: Read> {
     reader: R,
