@@ -1,6 +1,10 @@
-// The decomposition at each tree, compared with answers that are known from elsewhere: by hand, or by
-// a plain enumeration of all nodes of a tree.
+// The decomposition at each tree. `table` compares it at trees of few levels with a plain enumeration
+// of their codes and nodes. The rows here are worked examples, most of them at deeper trees.
 ghost use Rattle.std.specs.Prelude.{◌≤◌, length};
+
+mod enumerated;
+mod lists;
+mod table;
 
 use crate::{Split, split_in_plane, split_in_space};
 use gm_trees::{Node3, Tree, Window, XzTree, ZTree};
@@ -136,121 +140,6 @@ fn counts_the_own_codes_of_extents(rt: HostRuntime) {
         )
     );
     assert!(rt; plane(alloc, &XzTree::<2, 4>, &origin, 4, 1, &[(0, 340)]));
-    let last = [window([3, 3, 0], [3, 3, 0])];
-    assert!(rt;
-        plane(
-            alloc,
-            &XzTree::<2, 2>,
-            &last,
-            4,
-            2,
-            &[(0, 1), (6, 6), (11, 11), (16, 20)]
-        )
-    );
-    let two = [window([2, 2, 0], [3, 3, 0]), window([12, 9, 0], [13, 9, 0])];
-    assert!(rt;
-        plane(
-            alloc,
-            &XzTree::<2, 4>,
-            &two,
-            10,
-            3,
-            &[
-                (0, 22),
-                (86, 86),
-                (129, 129),
-                (145, 150),
-                (161, 165),
-                (171, 171),
-                (256, 257),
-                (263, 267),
-                (278, 283)
-            ]
-        )
-    );
-}
-
-#[test]
-fn splits_the_plane_as_enumerated(rt: HostRuntime) {
-    let alloc = rt.alloc();
-    let row = [window([0, 1, 0], [3, 1, 0])];
-    assert!(rt; plane(alloc, &ZTree::<2, 2>, &row, 2, 2, &[(2, 3), (6, 7)]));
-    let inner = [window([3, 5, 0], [9, 12, 0])];
-    assert!(rt;
-        plane(
-            alloc,
-            &ZTree::<2, 4>,
-            &inner,
-            12,
-            3,
-            &[
-                (36, 39),
-                (44, 63),
-                (96, 99),
-                (104, 107),
-                (132, 135),
-                (140, 159),
-                (164, 167),
-                (176, 183),
-                (192, 195),
-                (200, 203),
-                (224, 227)
-            ]
-        )
-    );
-    let two = [window([3, 5, 0], [4, 6, 0]), window([12, 0, 0], [15, 3, 0])];
-    assert!(rt; plane(alloc, &ZTree::<2, 4>, &two, 2, 2, &[(32, 63), (80, 95)]));
-    assert!(rt;
-        plane(
-            alloc,
-            &ZTree::<2, 4>,
-            &two,
-            5,
-            4,
-            &[(39, 39), (45, 45), (50, 50), (56, 56), (80, 95)]
-        )
-    );
-    let middle = [window([1, 2, 0], [1, 2, 0])];
-    assert!(rt;
-        plane(
-            alloc,
-            &XzTree::<2, 2>,
-            &middle,
-            3,
-            2,
-            &[(0, 1), (4, 5), (11, 13)]
-        )
-    );
-}
-
-#[test]
-fn splits_space_as_enumerated(rt: HostRuntime) {
-    let alloc = rt.alloc();
-    let edge = [window([0, 1, 0], [0, 1, 1])];
-    assert!(rt; space(alloc, &ZTree::<3, 1>, &edge, 2, 1, &[(2, 2), (6, 6)]));
-    let two = [window([0, 3, 1], [0, 3, 2]), window([2, 0, 0], [3, 1, 0])];
-    assert!(rt; space(alloc, &ZTree::<3, 2>, &two, 2, 1, &[(8, 23), (48, 55)]));
-    assert!(rt;
-        space(
-            alloc,
-            &ZTree::<3, 2>,
-            &two,
-            3,
-            2,
-            &[(8, 11), (22, 22), (50, 50)]
-        )
-    );
-    let corner = [window([0, 1, 3], [0, 1, 3])];
-    assert!(rt;
-        space(
-            alloc,
-            &XzTree::<3, 2>,
-            &corner,
-            6,
-            2,
-            &[(0, 1), (37, 38), (40, 40), (42, 42), (44, 44)]
-        )
-    );
 }
 
 // Whether the cells on both sides of the middle of x, at the origin of the rest, are these two codes.
