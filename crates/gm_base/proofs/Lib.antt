@@ -1,1 +1,5 @@
+pub mod Booleans
+pub mod Buffers
+pub mod Fronts
 pub mod Identifiers
+pub mod Published

@@ -1,26 +1,28 @@
-//! What every layer of gm speaks of: texts, bytes, lists, identifiers, the counter of rows, the hash
-//! of the shards, and the codes of refused lines.
+//! What every layer of gm speaks of: texts, bytes, lists, identifiers, spans of keys, the counter of
+//! rows, the hash of the shards, and the codes of refused lines.
 #![tactic(auto)]
 
 mod bytes;
 mod code;
 mod counter;
+mod front;
 mod hash;
 mod identifier;
 mod items;
 mod no_memory;
 mod order;
+mod spans;
 mod tally;
-#[cfg(test)]
-mod tests;
 mod text;
 
 pub use bytes::Bytes;
 pub use code::Code;
 pub use counter::Counter;
+pub use front::{first_bytes, order_of_fronts};
 pub use hash::fnv1a;
 pub use identifier::{FeatureId, IdFault};
 pub use items::Items;
 pub use no_memory::NoMemory;
+pub use spans::SpanList;
 pub use tally::Tally;
 pub use text::Text;

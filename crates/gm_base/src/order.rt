@@ -34,6 +34,14 @@ impl Ord for Bytes {
     ghost matches_eq = { Prim.search (comparing, rules) };
 
     fn cmp(&self, other: &Bytes) -> Ordering {
+        let front = self.front();
+        let other_front = other.front();
+        if front < other_front {
+            return Ordering::Less;
+        }
+        if front > other_front {
+            return Ordering::Greater;
+        }
         self.as_slice().cmp(&other.as_slice())
     }
 }

@@ -4,7 +4,8 @@ ghost use Rattle.std.specs.Option.{ForSome};
 ghost use Rattle.std.specs.Ordering.{nat_cmp};
 ghost use Rattle.std.specs.Cmp.Lexicographic.{slice_cmp};
 ghost use Rattle.std.specs.FinMap as files;
-ghost use Rattle.gm_outside.specs.Outside.{Rose, Renamed, Removed, OldOr};
+ghost use Rattle.gm_outside.specs.Failed.{Rose};
+ghost use Rattle.gm_outside.specs.Folder.{Renamed, Removed, OldOr};
 
 use gm_base::{Bytes, Items, Text};
 use std::alloc::Global;

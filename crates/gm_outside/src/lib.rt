@@ -3,6 +3,7 @@
 //! adapters over the streams of the machine.
 #![tactic(auto)]
 
+mod failed;
 mod folder;
 mod gate;
 mod giving;
@@ -15,15 +16,14 @@ mod steady_sink;
 mod steady_source;
 mod stream_sink;
 mod stream_source;
-#[cfg(test)]
-mod tests;
 
+pub use failed::Failed;
 pub use folder::{Folder, FolderRefusal, Names};
 pub use gate::{Gate, NoGate};
 pub use memory_sink::MemorySink;
 pub use memory_source::MemorySource;
 pub use sink::{Sink, SinkRefusal};
-pub use source::{Failed, Source};
+pub use source::Source;
 pub use steady_folder::SteadyFolder;
 pub use steady_sink::SteadySink;
 pub use steady_source::SteadySource;

@@ -1,7 +1,8 @@
 // A sink in memory.
 ghost use Rattle.std.specs.Prelude.{◌≡◌, ◌≤◌, ◌<◌, ◌↔◌, ◌++◌, Some, length, take, min, [], true, IfOk, OnOk, OnErr, IsErrOf, is_err};
+ghost use Rattle.gm_outside.specs.Sink.{within_some};
 ghost use Rattle.gm_base.specs.Counter.{capped_sum};
-ghost use Rattle.gm_outside.specs.Outside.{Rose, is_among};
+ghost use Rattle.gm_outside.specs.Failed.{Rose, is_among};
 
 use crate::{Failed, Sink, SinkRefusal};
 use std::alloc::Global;
@@ -25,6 +26,7 @@ impl MemorySink {
     pub fn new(alloc: Global, piece: usize, failing: Vec<u64>) -> MemorySink
         requires { 0 < piece }
         ensures written { ⟦<MemorySink as Sink>⟧.written result ≡ Some [] }
+        ensures flushed { ⟦<MemorySink as Sink>⟧.flushed result ≡ 0 }
         ensures faults { ⟦<MemorySink as Sink>⟧.faults result ≡ 0 }
         ensures piece { result.piece ≡ piece }
         ensures calls { result.calls ≡ 0 }
@@ -88,6 +90,8 @@ impl Sink for MemorySink {
     ghost flushed = { λ s. s.flushed };
 
     ghost faults = { λ s. s.faults };
+
+    ghost within = { λ s. within_some s.bytes.items s.flushed s.inside };
 
     fn write(&mut self, _alloc: Global, from: &[u8]) -> Result<usize, SinkRefusal>
         requires { 0 < length from.now }

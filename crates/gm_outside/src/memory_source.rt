@@ -2,7 +2,8 @@
 ghost use Rattle.std.specs.Prelude.{◌≡◌, ◌≤◌, ◌<◌, Some, take, drop, length, min, IfOk, OnErr, is_err};
 ghost use Rattle.std.specs.Option.{ForSome};
 ghost use Rattle.gm_base.specs.Counter.{capped_sum};
-ghost use Rattle.gm_outside.specs.Outside.{Rose, Gives, is_among};
+ghost use Rattle.gm_outside.specs.Failed.{Rose, is_among};
+ghost use Rattle.gm_outside.specs.Source.{Gives};
 
 use crate::giving::give;
 use crate::{Failed, Source};

@@ -1,7 +1,8 @@
 // Where replies go.
 ghost use Rattle.std.specs.Prelude.{◌≡◌, ◌≤◌, ◌<◌, ◌++◌, ℕ, List, Option, Some, length, take, IfOk, OnOk, OnErr, IsErrOf};
 ghost use Rattle.std.specs.Option.{ForSome};
-ghost use Rattle.gm_outside.specs.Outside.{Rose};
+ghost use Rattle.gm_outside.specs.Failed.{Rose};
+ghost use Rattle.gm_outside.specs.Sink.{IsWithin};
 
 use crate::Failed;
 use std::alloc::Global;
@@ -42,4 +43,7 @@ pub trait Sink {
         ensures flushed { flushed self.old ≤ flushed self.new }
         ensures cause { OnErr result (Rose (faults self.old) (faults self.new)) }
         ensures later { faults self.old ≤ faults self.new };
+
+    /// No more is flushed than was written.
+    ghost within: { (sink : Self) → IsWithin (written sink) (flushed sink) };
 }

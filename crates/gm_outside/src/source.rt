@@ -1,11 +1,10 @@
 // Where a script comes from.
 ghost use Rattle.std.specs.Prelude.{◌≡◌, ◌≤◌, ◌<◌, ℕ, List, Option, length, take, IfOk, OnErr};
 ghost use Rattle.std.specs.Option.{ForSome};
-ghost use Rattle.gm_outside.specs.Outside.{Rose, Gives};
+ghost use Rattle.gm_outside.specs.Failed.{Rose};
+ghost use Rattle.gm_outside.specs.Source.{Gives};
 
-/// The answer of a device that failed.
-#[derive(Clone, Copy, Debug, PartialEq, Eq)]
-pub struct Failed;
+use crate::Failed;
 
 /// Gives bytes in order.
 pub trait Source {

@@ -1,5 +1,5 @@
 // A folder for runs that name none.
-ghost use Rattle.std.specs.Prelude.{None};
+ghost use Rattle.std.specs.Prelude.{◌≡◌, None, Ok, [], IsOk};
 
 use crate::{Folder, FolderRefusal, Names};
 use gm_base::{Bytes, Items, Text};
@@ -14,27 +14,39 @@ impl Folder for SteadyFolder {
 
     ghost faults = { λ _. 0 };
 
-    fn open(&mut self, _alloc: Global, _place: &Text) -> Result<(), FolderRefusal> {
+    fn open(&mut self, _alloc: Global, _place: &Text) -> Result<(), FolderRefusal>
+        ensures { IsOk result }
+    {
         Ok(())
     }
 
-    fn get(&mut self, _alloc: Global, _name: &Text) -> Result<Option<Bytes>, FolderRefusal> {
+    fn get(&mut self, _alloc: Global, _name: &Text) -> Result<Option<Bytes>, FolderRefusal>
+        ensures { result ≡ Ok None }
+    {
         Ok(None)
     }
 
-    fn put(&mut self, _alloc: Global, _name: &Text, _bytes: &[u8]) -> Result<(), FolderRefusal> {
+    fn put(&mut self, _alloc: Global, _name: &Text, _bytes: &[u8]) -> Result<(), FolderRefusal>
+        ensures { IsOk result }
+    {
         Ok(())
     }
 
-    fn rename(&mut self, _alloc: Global, _from: &Text, _to: &Text) -> Result<(), FolderRefusal> {
+    fn rename(&mut self, _alloc: Global, _from: &Text, _to: &Text) -> Result<(), FolderRefusal>
+        ensures { IsOk result }
+    {
         Ok(())
     }
 
-    fn remove(&mut self, _alloc: Global, _name: &Text) -> Result<(), FolderRefusal> {
+    fn remove(&mut self, _alloc: Global, _name: &Text) -> Result<(), FolderRefusal>
+        ensures { IsOk result }
+    {
         Ok(())
     }
 
-    fn names(&mut self, alloc: Global) -> Result<Names, FolderRefusal> {
+    fn names(&mut self, alloc: Global) -> Result<Names, FolderRefusal>
+        ensures { result ≡ Ok [] }
+    {
         Ok(Items::new(alloc))
     }
 }

@@ -1,5 +1,6 @@
 // A sink in memory that never fails.
-ghost use Rattle.std.specs.Prelude.{◌≡◌, ◌≤◌, Some, length, []};
+ghost use Rattle.std.specs.Prelude.{◌≡◌, ◌≤◌, ◌<◌, ◌++◌, Some, length, [], IfOk, OnOk, OnErr, IsOk, IsErrOf};
+ghost use Rattle.gm_outside.specs.Sink.{within_some};
 
 use crate::{Failed, Sink, SinkRefusal};
 use std::alloc::Global;
@@ -14,7 +15,8 @@ pub struct SteadySink {
 
 impl SteadySink {
     pub fn new(alloc: Global) -> SteadySink
-        ensures { ⟦<SteadySink as Sink>⟧.written result ≡ Some [] }
+        ensures written { ⟦<SteadySink as Sink>⟧.written result ≡ Some [] }
+        ensures flushed { ⟦<SteadySink as Sink>⟧.flushed result ≡ 0 }
     {
         SteadySink {
             bytes: Vec::new(alloc),
@@ -37,14 +39,27 @@ impl Sink for SteadySink {
 
     ghost faults = { λ _. 0 };
 
-    fn write(&mut self, _alloc: Global, from: &[u8]) -> Result<usize, SinkRefusal> {
+    ghost within = { λ s. within_some s.bytes.items s.flushed s.inside };
+
+    fn write(&mut self, _alloc: Global, from: &[u8]) -> Result<usize, SinkRefusal>
+        requires { 0 < length from.now }
+        ensures all { IfOk result (λ n. n ≡ length from.now) }
+        ensures bytes { OnOk result (self.new.bytes.items ≡ self.old.bytes.items ++ from.now) }
+        ensures err { OnErr result (self.new.bytes.items ≡ self.old.bytes.items) }
+        ensures flushed { self.new.flushed ≡ self.old.flushed }
+        ensures never { IsErrOf result SinkRefusal.Failed → ⊥ }
+    {
         if self.bytes.extend_from_slice(from).is_err() {
             return Err(SinkRefusal::NoMemory);
         }
         Ok(from.len())
     }
 
-    fn flush(&mut self) -> Result<(), Failed> {
+    fn flush(&mut self) -> Result<(), Failed>
+        ensures ok { IsOk result }
+        ensures flushed { self.new.flushed ≡ length self.old.bytes.items }
+        ensures bytes { self.new.bytes ≡ self.old.bytes }
+    {
         self.flushed = self.bytes.len();
         Ok(())
     }

@@ -1,5 +1,7 @@
 // A source in memory that never fails.
-ghost use Rattle.std.specs.Prelude.{◌≡◌, ◌≤◌, Some, drop, length};
+ghost use Rattle.std.specs.Prelude.{◌≡◌, ◌≤◌, ◌<◌, Some, take, drop, length, min, IfOk, IsOk};
+ghost use Rattle.std.specs.Option.{ForSome};
+ghost use Rattle.gm_outside.specs.Source.{Gives};
 
 use crate::giving::give;
 use crate::{Failed, Source};
@@ -25,7 +27,13 @@ impl Source for SteadySource {
 
     ghost faults = { λ _. 0 };
 
-    fn read(&mut self, into: &mut [u8]) -> Result<usize, Failed> {
+    fn read(&mut self, into: &mut [u8]) -> Result<usize, Failed>
+        requires { 0 < length into.old }
+        ensures ok { IsOk result }
+        ensures all { IfOk result (λ n. n ≡ min (length into.old) (length (drop self.old.at self.old.bytes.items))) }
+        ensures bytes { IfOk result (λ n. ForSome (Some (drop self.old.at self.old.bytes.items))
+            (λ bytes. Gives bytes (take n into.new) (Some (drop self.new.at self.new.bytes.items)))) }
+    {
         let n = give(&self.bytes[self.at..], usize::MAX, into);
         self.at += n;
         Ok(n)

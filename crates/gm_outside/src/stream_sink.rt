@@ -1,7 +1,8 @@
 // A sink over a writer of std, such as standard output.
 ghost use Rattle.std.specs.Prelude.{◌≡◌, ◌≤◌, ◌<◌, None, length, IfOk, OnErr, IsErrOf};
 ghost use Rattle.std.specs.Io.KnownBytes.{Keeps, WriteAppends};
-ghost use Rattle.gm_outside.specs.Outside.{Rose};
+ghost use Rattle.gm_outside.specs.Sink.{within_none};
+ghost use Rattle.gm_outside.specs.Failed.{Rose};
 
 use crate::{Failed, Sink, SinkRefusal};
 use std::alloc::Global;
@@ -31,6 +32,8 @@ impl<W: Write> Sink for StreamSink<W> {
     ghost flushed = { λ _. 0 };
 
     ghost faults = { λ s. s.faults };
+
+    ghost within = { λ _. within_none 0 };
 
     fn write(&mut self, _alloc: Global, from: &[u8]) -> Result<usize, SinkRefusal>
         ensures some { IfOk result (λ n. 0 < n) }

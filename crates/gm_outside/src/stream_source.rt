@@ -1,7 +1,7 @@
 // A source over a reader of std, such as standard input.
 ghost use Rattle.std.specs.Prelude.{◌≡◌, ◌≤◌, None, length, IfOk, OnErr};
 ghost use Rattle.std.specs.Io.KnownBytes.{ReadConsumes};
-ghost use Rattle.gm_outside.specs.Outside.{Rose};
+ghost use Rattle.gm_outside.specs.Failed.{Rose};
 
 use crate::{Failed, Source};
 use std::io::Read;

@@ -5,14 +5,11 @@ use Rattle.std.specs.Ordering.{nat_cmp, is_eq}
 use Rattle.std.specs.Cmp.{tied_itself}
 use Rattle.std.specs.Cmp.Lexicographic.{slice_cmp, nat_list_cmp_total}
 use Rattle.std.specs.BTreeMap.{is_at}
+use Rattle.gm_base.proofs.Booleans.{neither_of}
 use Rattle.gm_table.specs.declared.row.Row.{Row}
 use Rattle.gm_table.specs.Row.{key_of}
 use Rattle.gm_table.specs.Batch.{has_key, are_distinct, put_at}
 use Rattle.gm_table.proofs.Keys.{turned}
-
-neither : (a b : Bool) → (a || b) ≡ false → (a ≡ false) × (b ≡ false)
-neither true b none = cc
-neither false b none = (refl, none)
 
 each : (a b : Bool) → (not a && b) ≡ true → (a ≡ false) × (b ≡ true)
 each true b both = cc
@@ -25,7 +22,7 @@ itself key = ap is_eq (tied_itself nat_list_cmp_total key)
 pub has_key-append : (key : List ℕ) (front back : List (List ℕ)) → has_key key (front ++ back) ≡ false → (has_key key front ≡ false) × (has_key key back ≡ false)
 has_key-append key [] back none = (refl, none)
 has_key-append key (other ∷ front) back none =
-    let here = neither _ _ none in
+    let here = neither_of _ _ none in
     let rest = has_key-append key front back here.1 in
     (ap (λ b. b || has_key key front) here.0 ∙ rest.0, rest.1)
 
@@ -36,7 +33,7 @@ distinct_middle [] key back distinct = (refl, (each _ _ distinct).0)
 distinct_middle (other ∷ front) key back distinct =
     let here = each _ _ distinct in
     let rest = distinct_middle front key back here.1 in
-    let apart = neither _ _ (has_key-append other front (key ∷ back) here.0).1 in
+    let apart = neither_of _ _ (has_key-append other front (key ∷ back) here.0).1 in
     (ap (λ b. b || has_key key front) (turned key other ∙ apart.0) ∙ rest.0, rest.1)
 
 pub map-middle : (front : List Row) (row : Row) (back : List Row) → map key_of (front ++ row ∷ back) ≡ map key_of front ++ row.key ∷ map key_of back
@@ -47,7 +44,7 @@ map-middle (first ∷ front) row back = ap (λ keys. first.key ∷ keys) (map-mi
 pub put_at-other : (key : List ℕ) (puts : List Row) (before : Option (List ℕ)) → has_key key (map key_of puts) ≡ false → put_at key puts before ≡ before
 put_at-other key [] before none = refl
 put_at-other key (put ∷ puts) before none =
-    let apart = neither _ _ none in
+    let apart = neither_of _ _ none in
     ap (λ b. put_at key puts (if b then Some put.bytes else before)) apart.0 ∙ put_at-other key puts before apart.1
 
 pub put_at-there : (front : List Row) (row : Row) (back : List Row) (before : Option (List ℕ)) → has_key row.key (map key_of back) ≡ false

@@ -2,5 +2,8 @@ pub mod Batches
 pub mod Between
 pub mod Handing
 pub mod Keys
+pub mod Places
 pub mod RowMaps
+pub mod Spans
 pub mod Undoing
+pub mod Walks

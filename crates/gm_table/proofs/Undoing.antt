@@ -10,10 +10,6 @@ use Rattle.std.specs.Prelude.{if◌then◌else◌}
 use Rattle.gm_table.specs.Batch.{put_at, has_key}
 use Rattle.gm_table.specs.Changes.{given_back, restored_at, undone_at}
 
-pub no_length : {A : Type 0} (xs : List A) → length xs ≡ 0 → xs ≡ []
-no_length [] none = refl
-no_length (x ∷ xs) none = absurd (omega arith)
-
 -- one put more
 pub put_at-push : (key : List ℕ) (puts : List Row) (put : Row) (before : Option (List ℕ)) → put_at key (puts ++ put ∷ []) before ≡ put_at key (put ∷ []) (put_at key puts before)
 put_at-push key [] put before = refl

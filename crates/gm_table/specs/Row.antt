@@ -4,6 +4,3 @@ use Rattle.gm_table.specs.declared.row.Row.{Row}
 
 abbrev pub key_of : Row → List ℕ
 key_of row = row.key
-
-abbrev pub pair_of : Row → List ℕ × List ℕ
-pair_of row = (row.key, row.bytes)

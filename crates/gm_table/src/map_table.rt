@@ -3,10 +3,12 @@ ghost use Rattle.std.specs.Prelude.{◌≡◌, []};
 ghost use Rattle.gm_table.specs.Sorted.{IsRising, IsRising-prop};
 
 use crate::changes::{put_rows, remove_keys};
+use crate::cursor::{Cursor, scan_range};
 use crate::{Batch, Sorted, Visit};
-use gm_base::{Bytes, NoMemory, Tally};
+use gm_base::{Bytes, NoMemory, SpanList, Tally};
 use std::alloc::Global;
 use std::collections::BTreeMap;
+use std::ops::Range;
 
 /// A table over std's `BTreeMap`.
 #[derive(Debug, Drop)]
@@ -51,12 +53,38 @@ impl Sorted for MapTable {
         visit: &mut V,
         tally: &mut Tally,
     ) -> Result<(), NoMemory> {
-        if low.cmp(high).is_gt() {
+        scan_range(alloc, &self.map, low, high, visit, tally)
+    }
+
+    fn scan_between<V: Visit>(
+        &self,
+        alloc: Global,
+        low: &[u8],
+        high: &[u8],
+        visit: &mut V,
+        tally: &mut Tally,
+    ) -> Result<(), NoMemory> {
+        let mut room = Bytes::new(alloc);
+        let mut cursor = Cursor::at(&self.map, low, &mut room);
+        cursor.scan(&self.map, alloc, low, high, &mut room, visit, tally)
+    }
+
+    fn scan_spans<V: Visit>(
+        &self,
+        alloc: Global,
+        spans: &SpanList,
+        part: Range<usize>,
+        visit: &mut V,
+        tally: &mut Tally,
+    ) -> Result<(), NoMemory> {
+        if part.start == part.end {
             return Ok(());
         }
-        for (key, bytes) in self.map.range(low..high) {
-            tally.add(1);
-            visit.row(alloc, key.as_slice(), bytes.as_slice())?;
+        let mut room = Bytes::new(alloc);
+        let mut cursor = Cursor::at(&self.map, spans.get(part.start).0, &mut room);
+        for i in part.start..part.end {
+            let (low, high) = spans.get(i);
+            cursor.scan(&self.map, alloc, low, high, &mut room, visit, tally)?;
         }
         Ok(())
     }

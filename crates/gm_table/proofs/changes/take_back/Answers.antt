@@ -2,7 +2,8 @@ use Rattle.std.proofs.Common.{arith, ap, sym, ◌∙◌, get_or, length, ◌≡�
 use Rattle.std.proofs.lemmas.Grind.{common_steps}
 use Rattle.gm_table.specs.Sorted.{at_key}
 use Rattle.gm_table.specs.Changes.{undone_at}
-use Rattle.gm_table.proofs.Undoing.{undone_at-push, no_length}
+use Rattle.gm_base.proofs.Booleans.{no_length}
+use Rattle.gm_table.proofs.Undoing.{undone_at-push}
 use Rattle.gm_table.proofs.changes.take_back.Goals as goal
 
 pub loop-old-preserved : goal.loop-old-preserved

@@ -1,4 +1,4 @@
-use Rattle.std.proofs.Common.{◌≡◌, true, sym, ap, ◌∙◌}
+use Rattle.std.proofs.Common.{sym, ap, ◌∙◌}
 use Rattle.gm_base.specs.Identifier.{is_identifier}
 use Rattle.gm_base.proofs.Identifiers.{not_identifier, is_identifier-form}
 use Rattle.gm_base.proofs.identifier.FeatureId.of.Goals as goal

@@ -1,0 +1,273 @@
+// Cases of tables.
+ghost use Rattle.std.specs.Prelude.{IfOk, IsTrue, ◌++◌, map};
+ghost use Rattle.gm_table.specs.Batch.{are_distinct};
+ghost use Rattle.gm_table.specs.Row.{key_of};
+
+use crate::words;
+use gm_base::{Bytes, Items, NoMemory, SpanList, Tally};
+use gm_table::{Batch, MapTable, Row, Sorted, Visit};
+use std::alloc::Global;
+
+pub fn answer(alloc: Global, word: &str, rest: &str) -> Result<String, NoMemory> {
+    match word {
+        "find" => find(alloc, &filled(alloc)?, rest),
+        "scan" => scan(alloc, rest),
+        "scan_spans" => scan_spans(alloc, rest),
+        _ => rows(alloc, rest.parse::<u64>().unwrap_or(0)),
+    }
+}
+
+// Takes as many rows as it has room for, and writes them out.
+#[derive(Drop)]
+struct Writer {
+    text: Bytes,
+    room: u64,
+}
+
+impl Visit for Writer {
+    ghost admits = { λ _ _ _. Unit {0} };
+
+    ghost takes = { λ _ _ _ _ _. Unit {0} };
+
+    ghost keeps = { λ _ _ _ _ _ _ _ _ _ _. tt };
+
+    fn row(&mut self, _alloc: Global, key: &[u8], bytes: &[u8]) -> Result<(), NoMemory> {
+        if self.room == 0 {
+            return Err(NoMemory);
+        }
+        self.room -= 1;
+        self.text.append(key)?;
+        self.text.append(b"=")?;
+        self.text.append(bytes)?;
+        self.text.append(b";")
+    }
+}
+
+// Counts rows.
+#[derive(Drop)]
+struct Count {
+    rows: u64,
+}
+
+impl Visit for Count {
+    ghost admits = { λ _ _ _. Unit {0} };
+
+    ghost takes = { λ _ _ _ _ _. Unit {0} };
+
+    ghost keeps = { λ _ _ _ _ _ _ _ _ _ _. tt };
+
+    fn row(&mut self, _alloc: Global, _key: &[u8], _bytes: &[u8]) -> Result<(), NoMemory> {
+        self.rows = self.rows.saturating_add(1);
+        Ok(())
+    }
+}
+
+// A table that leaves to the trait what it may.
+#[derive(Drop)]
+struct Plain {
+    inner: MapTable,
+}
+
+impl Sorted for Plain {
+    type Tally = Tally;
+
+    ghost rows = { λ table. ⟦<MapTable as Sorted>⟧.rows table.inner };
+
+    ghost rising = { λ table. table.inner.rising };
+
+    fn get(&self, key: &Bytes, tally: &mut Tally) -> Option<&[u8]> {
+        self.inner.get(key, tally)
+    }
+
+    fn scan_between<V: Visit>(
+        &self,
+        alloc: Global,
+        low: &[u8],
+        high: &[u8],
+        visit: &mut V,
+        tally: &mut Tally,
+    ) -> Result<(), NoMemory> {
+        self.inner.scan_between(alloc, low, high, visit, tally)
+    }
+
+    fn apply(&mut self, alloc: Global, batch: &Batch) -> Result<(), NoMemory> {
+        self.inner.apply(alloc, batch)
+    }
+
+    fn count(&self) -> u64 {
+        self.inner.count()
+    }
+}
+
+// A batch that puts one row.
+fn put(alloc: Global, key: &[u8], bytes: &[u8]) -> Result<Batch, NoMemory>
+    ensures { IfOk result (λ batch. IsTrue (are_distinct (batch.removes ++ map key_of batch.puts))) }
+{
+    let mut puts = Vec::new(alloc);
+    puts.push(Row {
+        key: Bytes::from_slice(alloc, key)?,
+        bytes: Bytes::from_slice(alloc, bytes)?,
+    })?;
+    Ok(Batch {
+        removes: Items::new(alloc),
+        puts: Items::from_vec(puts),
+    })
+}
+
+// A batch that takes one key out.
+fn removal(alloc: Global, key: &[u8]) -> Result<Batch, NoMemory>
+    ensures { IfOk result (λ batch. IsTrue (are_distinct (batch.removes ++ map key_of batch.puts))) }
+{
+    let mut removes = Vec::new(alloc);
+    removes.push(Bytes::from_slice(alloc, key)?)?;
+    Ok(Batch {
+        removes: Items::from_vec(removes),
+        puts: Items::new(alloc),
+    })
+}
+
+// A table with a=1, ab=12, b=two, after a row c that was taken out and an older b.
+fn filled(alloc: Global) -> Result<MapTable, NoMemory> {
+    let mut table = MapTable::new(alloc);
+    let puts: [(&[u8], &[u8]); 5] = [
+        (b"b", b"2"),
+        (b"a", b"1"),
+        (b"ab", b"12"),
+        (b"c", b"3"),
+        (b"b", b"two"),
+    ];
+    for (key, bytes) in puts {
+        table.apply(alloc, &put(alloc, key, bytes)?)?;
+    }
+    table.apply(alloc, &removal(alloc, b"c")?)?;
+    Ok(table)
+}
+
+// What stands at a key, and how many rows were counted.
+fn find<B: Sorted<Tally = Tally>>(alloc: Global, table: &B, key: &str) -> Result<String, NoMemory> {
+    let key = Bytes::from_slice(alloc, key.as_bytes())?;
+    let mut tally = Tally::new();
+    let bytes = table.get(&key, &mut tally);
+    let counted = tally.close();
+    let text = match bytes {
+        Some(bytes) => str::from_utf8(bytes).unwrap_or("no text"),
+        None => "none",
+    };
+    Ok(format!(in alloc; "{text} {counted} of {}", table.count())?)
+}
+
+// The rows between two keys, by the map and by the trait.
+fn scan(alloc: Global, ends: &str) -> Result<String, NoMemory> {
+    let (low, high) = ends_of(ends);
+    let table = filled(alloc)?;
+    let one = scanned(alloc, &table, low, high)?;
+    let plain = Plain {
+        inner: filled(alloc)?,
+    };
+    let other = scanned(alloc, &plain, low, high)?;
+    Ok(format!(in alloc; "{} {}", one.as_str(), one.as_str() == other.as_str())?)
+}
+
+fn ends_of(ends: &str) -> (&str, &str) {
+    ends.split_once(',').unwrap_or((ends, ""))
+}
+
+fn scanned<B: Sorted<Tally = Tally>>(
+    alloc: Global,
+    table: &B,
+    low: &str,
+    high: &str,
+) -> Result<String, NoMemory> {
+    let low = Bytes::from_slice(alloc, low.as_bytes())?;
+    let high = Bytes::from_slice(alloc, high.as_bytes())?;
+    let mut writer = writer_of(alloc, 9);
+    let mut tally = Tally::new();
+    let answer = table.scan(alloc, &low, &high, &mut writer, &mut tally);
+    told(alloc, &writer, answer, tally.close())
+}
+
+fn writer_of(alloc: Global, room: u64) -> Writer {
+    Writer {
+        text: Bytes::new(alloc),
+        room,
+    }
+}
+
+// What was written, how many rows were counted, and whether the visitor ended the scan.
+fn told(
+    alloc: Global,
+    writer: &Writer,
+    answer: Result<(), NoMemory>,
+    counted: u64,
+) -> Result<String, NoMemory> {
+    let text = str::from_utf8(writer.text.as_slice()).unwrap_or("no text");
+    Ok(format!(in alloc; "{text} {counted} {}", answer.is_ok())?)
+}
+
+// The rows of spans, with room for so many, by the map and by the trait: `9 ,a a,aa`.
+fn scan_spans(alloc: Global, case: &str) -> Result<String, NoMemory> {
+    let (room, spans) = words::split(case);
+    let room = room.parse::<u64>().unwrap_or(0);
+    let mut list = SpanList::new(alloc);
+    for span in spans.split(' ') {
+        let (low, high) = ends_of(span);
+        list.push(&[low.as_bytes()], &[high.as_bytes()])?;
+    }
+    let table = filled(alloc)?;
+    let one = spanned(alloc, &table, &list, room)?;
+    let plain = Plain {
+        inner: filled(alloc)?,
+    };
+    let other = spanned(alloc, &plain, &list, room)?;
+    Ok(format!(in alloc; "{} {}", one.as_str(), one.as_str() == other.as_str())?)
+}
+
+fn spanned<B: Sorted<Tally = Tally>>(
+    alloc: Global,
+    table: &B,
+    list: &SpanList,
+    room: u64,
+) -> Result<String, NoMemory> {
+    let mut writer = writer_of(alloc, room);
+    let mut tally = Tally::new();
+    let answer = table.scan_spans(alloc, list, 0..list.len(), &mut writer, &mut tally);
+    told(alloc, &writer, answer, tally.close())
+}
+
+// So many rows, put one by one, and how many of them spans find that hold every third row, alone and
+// in runs of a hundred.
+fn rows(alloc: Global, count: u64) -> Result<String, NoMemory> {
+    let mut table = MapTable::new(alloc);
+    for i in 0..count {
+        let key = i.to_be_bytes();
+        table.apply(alloc, &put(alloc, &key, &key)?)?;
+    }
+    let thirds = found(alloc, &table, count, 3, 1)?;
+    let runs = found(alloc, &table, count, 300, 100)?;
+    Ok(format!(in alloc;
+        "{} rows, {thirds} in thirds, {runs} in runs",
+        table.count()
+    )?)
+}
+
+// The rows of spans of so many rows, each so many rows behind the one before.
+fn found(
+    alloc: Global,
+    table: &MapTable,
+    count: u64,
+    step: u64,
+    wide: u64,
+) -> Result<u64, NoMemory> {
+    let mut list = SpanList::new(alloc);
+    for i in 0..count.checked_div(step).unwrap_or(0) {
+        let low = i.wrapping_mul(step);
+        let high = low.wrapping_add(wide);
+        list.push(&[&low.to_be_bytes()], &[&high.to_be_bytes()])?;
+    }
+    let mut counter = Count { rows: 0 };
+    let mut tally = Tally::new();
+    let answer = table.scan_spans(alloc, &list, 0..list.len(), &mut counter, &mut tally);
+    let _ = tally.close();
+    answer?;
+    Ok(counter.rows)
+}

@@ -1,0 +1,7 @@
+//! The bytes of a block: rows of a table in a file.
+#![tactic(auto)]
+
+mod block;
+mod parts;
+
+pub use block::{read_block, write_block};

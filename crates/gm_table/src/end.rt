@@ -1,0 +1,52 @@
+// An end of a span, which keys are compared with.
+ghost use Rattle.std.specs.Prelude.{◌≡◌};
+ghost use Rattle.std.specs.Ordering.{nat_cmp, is_le};
+ghost use Rattle.std.specs.Cmp.Lexicographic.{slice_cmp};
+
+use gm_base::{Bytes, first_bytes, order_of_fronts};
+use std::marker::Model;
+
+/// A key that is lent, with the number of its first bytes. It is seen as its bytes.
+#[derive(Drop)]
+pub(crate) struct End<'a> {
+    front: u128,
+    bytes: &'a [u8],
+}
+
+impl<'a> Model for End<'a> {
+    ghost use Rattle.std.specs.Prelude.{ℕ, List};
+    ghost use Rattle.gm_base.specs.Front.{IsFront};
+
+    ghost Value = { List ℕ };
+
+    ghost view = { λ end. end.bytes.now };
+
+    ghost invariant = { λ end. IsFront end.front end.bytes.now };
+}
+
+impl<'a> End<'a> {
+    pub(crate) fn of(bytes: &'a [u8]) -> End<'a>
+        ensures { result ≡ bytes.now }
+    {
+        End {
+            front: first_bytes(bytes),
+            bytes,
+        }
+    }
+
+    /// Whether the key is at this end or after it. Where the first bytes differ, the others are not
+    /// looked at.
+    pub(crate) fn is_reached(&self, key: &Bytes) -> bool
+        ensures { result ≡ is_le (slice_cmp nat_cmp self.now key.now) }
+    {
+        order_of_fronts();
+        let front = key.front();
+        if self.front < front {
+            return true;
+        }
+        if self.front > front {
+            return false;
+        }
+        self.bytes.cmp(&key.as_slice()).is_le()
+    }
+}
