@@ -4,12 +4,12 @@ use Rattle.std.proofs.lemmas.Bool.{cases_order}
 use Rattle.std.proofs.lemmas.Bool.Decides.{nat_tests}
 use Rattle.jiff_core.proofs.SignedLemmas.{signed_arith, one_part}
 use Rattle.gm_calendar.specs.declared.period.Period.{Period}
-use Rattle.gm_calendar.specs.declared.place.Place.{Place}
+use Rattle.gm_calendar.specs.declared.bin_place.BinPlace.{BinPlace}
 use Rattle.gm_calendar.specs.declared.period.Period.TheVariants.{Day, Week, Month, Year}
 use Rattle.gm_calendar.specs.Calendar.{days_of_month, days_of_year, span_at}
 use Rattle.gm_calendar.specs.Instant.{day_ms}
 use Rattle.gm_calendar.specs.Period.{last_of, unit_of, longest_of}
-use Rattle.gm_calendar.specs.Place.{IsPlace}
+use Rattle.gm_calendar.specs.BinPlace.{IsBinPlace}
 use Rattle.gm_calendar.specs.Bin.{month_at, days_of_bin, bin_start, ms_of_bin, bin_at, IsBinOf, HasNoBin}
 
 days_of_month_bound : (y m : ℕ) → days_of_month y m ≤ 31
@@ -54,7 +54,7 @@ pub since_start : (start rest ms : ℕ) → start + rest ≡ ms → rest ≡ uns
 since_start start rest ms e = omega (arith, signed_arith, one_part (pos ms -ℤ pos start))
 
 -- a place within the bins is the bin
-pub bin_from_place : (period : Period) (at : ℤ) (ms : ℕ) (place : Place) (unit : ℕ) → IsPlace period ms place → at ≡ pos ms → place.number ≤ last_of period → unit ≡ unit_of period → IsBinOf period at record { number = place.number; offset = place.rest / unit }
+pub bin_from_place : (period : Period) (at : ℤ) (ms : ℕ) (place : BinPlace) (unit : ℕ) → IsBinPlace period ms place → at ≡ pos ms → place.number ≤ last_of period → unit ≡ unit_of period → IsBinOf period at record { number = place.number; offset = place.rest / unit }
 bin_from_place period at ms place unit is same low units =
     let next = bin_start-next period place.number in
     let above = is.above in
@@ -68,7 +68,7 @@ bin_from_place period at ms place unit is same low units =
     }
 
 -- and one past them has no bin
-pub none_from_place : (period : Period) (at : ℤ) (ms : ℕ) (place : Place) → IsPlace period ms place → at ≡ pos ms → last_of period < place.number → HasNoBin period at
+pub none_from_place : (period : Period) (at : ℤ) (ms : ℕ) (place : BinPlace) → IsBinPlace period ms place → at ≡ pos ms → last_of period < place.number → HasNoBin period at
 none_from_place period at ms place is same high =
     let start = bin_start_mono period (last_of period + 1) place.number (omega arith) in
     let above = is.above in
@@ -132,13 +132,13 @@ unfolding bin_start
 ms_starts period n = omega arith
 
 -- the bin that the definition finds
-pub bin_at_place : (period : Period) (at : ℤ) (ms : ℕ) (place : Place) (unit : ℕ) → IsPlace period ms place → at ≡ pos ms → place.number ≤ last_of period → unit ≡ unit_of period → Some record { number = place.number; offset = place.rest / unit } ≡ bin_at period at
+pub bin_at_place : (period : Period) (at : ℤ) (ms : ℕ) (place : BinPlace) (unit : ℕ) → IsBinPlace period ms place → at ≡ pos ms → place.number ≤ last_of period → unit ≡ unit_of period → Some record { number = place.number; offset = place.rest / unit } ≡ bin_at period at
 bin_at_place period at ms place unit is same low units =
     let zeroth : bin_start period 0 ≡ 0 = unfold bin_start in refl in
     let found = span_at-within (ms_of_bin period) (λ n. bin_start period n * day_ms) (ms_starts period) (last_of period + 1) 0 place.number place.rest ms (omega arith) (omega arith) is.below (rw zeroth (omega (arith, is.above))) in
     rw (same, units, found) refl
 
-pub bin_at_past : (period : Period) (at : ℤ) (ms : ℕ) (place : Place) → IsPlace period ms place → at ≡ pos ms → last_of period < place.number → None ≡ bin_at period at
+pub bin_at_past : (period : Period) (at : ℤ) (ms : ℕ) (place : BinPlace) → IsBinPlace period ms place → at ≡ pos ms → last_of period < place.number → None ≡ bin_at period at
 bin_at_past period at ms place is same high =
     let zeroth : bin_start period 0 ≡ 0 = unfold bin_start in refl in
     let start = bin_start_mono period (last_of period + 1) place.number (omega arith) in

@@ -9,7 +9,7 @@ use Rattle.gm_calendar.specs.declared.period.Period.TheVariants.{Day, Week, Mont
 use Rattle.gm_calendar.specs.Calendar.{span_at}
 use Rattle.gm_calendar.specs.Instant.{day_ms}
 use Rattle.gm_calendar.specs.Period.{last_of, unit_of, longest_of}
-use Rattle.gm_calendar.specs.Place.{IsPlace}
+use Rattle.gm_calendar.specs.BinPlace.{IsBinPlace}
 use Rattle.gm_calendar.specs.Bin.{days_of_bin, bin_start, ms_of_bin, first_ms, last_ms, ms_since, bin_from, bin_at, IsBinOf, HasNoBin, HasNumber, LiesIn, IsNotAfter}
 use Rattle.gm_calendar.proofs.BinLaws.{AreStarts, ms_starts, passes, fails, bin_start_mono, bin_start-next, bin_from_place, bin_at_place, rest_within_span}
 
@@ -70,7 +70,7 @@ has_number period (negsuc n) number low h = absurd (omega (arith, signed_arith))
 has_number period (pos ms) number low h =
     let next = bin_start-next period number in
     let start = bin_start period number * day_ms in
-    let place : IsPlace period ms record { number = number; rest = ms - start } = record { above = omega (arith, signed_arith); below = omega (arith, signed_arith) } in
+    let place : IsBinPlace period ms record { number = number; rest = ms - start } = record { above = omega (arith, signed_arith); below = omega (arith, signed_arith) } in
     let found = bin_at_place period (pos ms) ms record { number = number; rest = ms - start } (unit_of period) place refl low refl in
     rw (← found) refl
 

@@ -12,7 +12,7 @@ use Rattle.jiff_core.proofs.CalendarLemmas.{day_count-epoch, day_count-next_mont
 use Rattle.gm_calendar.specs.declared.period.Period.TheVariants.{Day, Week, Month, Year}
 use Rattle.gm_calendar.specs.Calendar.{days_of_month, days_of_year}
 use Rattle.gm_calendar.specs.Instant.{day_ms}
-use Rattle.gm_calendar.specs.Place.{IsPlace}
+use Rattle.gm_calendar.specs.BinPlace.{IsBinPlace}
 use Rattle.gm_calendar.specs.Bin.{next_month, month_at, days_of_bin, bin_start}
 
 -- days and weeks start at multiples of their length
@@ -25,10 +25,6 @@ pub bin_start-week : (n : ℕ) → bin_start Week n ≡ n * 7
 unfolding bin_start
 bin_start-week zero = refl
 bin_start-week (suc n) = omega (arith, bin_start-week n)
-
--- this calendar's lengths are those of `jiff`
-pub days_of_month-is : (y m : ℕ) → days_of_month y m ≡ days_in_month (pos y) m
-days_of_month-is y m = refl
 
 pub days_of_year-is : (y : ℕ) → days_of_year y ≡ days_in_year (pos y)
 days_of_year-is y = refl
@@ -100,7 +96,7 @@ epoch_is_zero d h =
     rw (year, month, day) (omega (arith, signed_arith, days_from_civil-day_count, day_count-epoch))
 
 -- the place of a day among the months, by its year since 1970, its month from 0 and its day
-month_place_by_parts : (years m day ms : ℕ) → m < 12 → 1 ≤ day → day ≤ days_of_month (1970 + years) (m + 1) → days_from_civil (pos (1970 + years)) (m + 1) day ≡ pos (ms / day_ms) → IsPlace Month ms record { number = years * 12 + m; rest = (day - 1) * day_ms + ms % day_ms }
+month_place_by_parts : (years m day ms : ℕ) → m < 12 → 1 ≤ day → day ≤ days_of_month (1970 + years) (m + 1) → days_from_civil (pos (1970 + years)) (m + 1) day ≡ pos (ms / day_ms) → IsBinPlace Month ms record { number = years * 12 + m; rest = (day - 1) * day_ms + ms % day_ms }
 month_place_by_parts years m day ms low first last e =
     let at = month_at-number years m low in
     let start = rw at at (bin_start-month (years * 12 + m)) in
@@ -108,14 +104,14 @@ month_place_by_parts years m day ms low first last e =
     let within = day_count-day (pos (1970 + years)) (m + 1) day 1 first (omega arith) in
     record { above = omega (arith, signed_arith); below = rw at (omega arith) }
 
-pub month_place_lem : (d : Date) (years month ms rest : ℕ) → d.year ≡ pos (1970 + years) → month ≡ d.month → epoch_day d ≡ pos (ms / day_ms) → rest ≡ (d.day - 1) * day_ms + ms % day_ms → IsPlace Month ms record { number = years * 12 + (month - 1); rest = rest }
+pub month_place_lem : (d : Date) (years month ms rest : ℕ) → d.year ≡ pos (1970 + years) → month ≡ d.month → epoch_day d ≡ pos (ms / day_ms) → rest ≡ (d.day - 1) * day_ms + ms % day_ms → IsBinPlace Month ms record { number = years * 12 + (month - 1); rest = rest }
 month_place_lem d years _ ms rest year same e r =
     let month : d.month - 1 + 1 ≡ d.month = omega (arith, d.month_in) in
     let Within : ℤ → Type 0 = λ y. d.day ≤ days_in_month y d.month in
     let Is : ℤ → Type 0 = λ y. days_from_civil y d.month d.day ≡ pos (ms / day_ms) in
     rw (same, r) (month_place_by_parts years (d.month - 1) d.day ms (omega (arith, d.month_in)) d.day_in.0 (rw month (subst Within year d.day_in.1)) (rw month (subst Is year e)))
 
-pub year_place_lem : (d : Date) (years ms rest : ℕ) → d.year ≡ pos (1970 + years) → epoch_day d ≡ pos (ms / day_ms) → rest ≡ (ordinal d - 1) * day_ms + ms % day_ms → IsPlace Year ms record { number = years; rest = rest }
+pub year_place_lem : (d : Date) (years ms rest : ℕ) → d.year ≡ pos (1970 + years) → epoch_day d ≡ pos (ms / day_ms) → rest ≡ (ordinal d - 1) * day_ms + ms % day_ms → IsBinPlace Year ms record { number = years; rest = rest }
 year_place_lem d years ms rest year e r =
     let Starts : ℤ → Type 0 = λ y. day_count y 1 1 ≡ bin_start Year years + 4_371_953 in
     let start = subst Starts (sym year) (bin_start-year years) in

@@ -7,3 +7,4 @@ pub mod PrintedForm
 pub mod Prints
 pub mod Readings
 pub mod RoundTrip
+pub mod Spelled

@@ -1,7 +1,6 @@
 -- A printed instant is read again as the instant.
 use Rattle.std.proofs.Common.{◌≡◌, ℕ, true, [], ◌∷◌, ◌++◌, Some, take, drop, ◌+◌, ◌-◌, ◌*◌, ◌/◌, ◌%◌, ◌<◌, ◌≤◌, refl, ap, ◌∙◌, arith, ℤ, pos, ◌+ℤ◌, ◌*ℤ◌, nat_lt}
 use Rattle.std.specs.Char.{is_ascii_digit}
-use Rattle.std.specs.List.{prefix_len}
 use Rattle.std.proofs.lemmas.Bool.Decides.{nat_tests}
 use Rattle.std.proofs.lemmas.Int.{ints}
 use Rattle.jiff_core.specs.Calendar.{days_from_civil}
@@ -45,9 +44,6 @@ second_read seconds h =
     let low : nat_lt seconds 60 ≡ true = grind (arith, nat_tests) in
     ap second_at (number_of-two seconds (omega arith)) ∙ rw low refl
 
-three_digits : (a b d : ℕ) → a < 10 → b < 10 → d < 10 → prefix_len is_ascii_digit ((48 + a) ∷ (48 + b) ∷ (48 + d) ∷ 90 ∷ []) ≡ 3
-three_digits a b d x y z = rw (is_digit a x, is_digit b y, is_digit d z) refl
-
 fraction_read : (ms : ℕ) → behind_seconds (46 ∷ (48 + ms % 1_000 / 100) ∷ (two_digits (ms % 100) ++ 90 ∷ [])) ≡ Some (pos (ms % 1_000))
 fraction_read ms =
     let value : (48 + ms % 1_000 / 100 - 48) * 100 + (48 + ms % 100 / 10 - 48) * 10 + (48 + ms % 100 % 10 - 48) + 0 ≡ ms % 1_000 = omega arith in
@@ -79,7 +75,7 @@ text_read year month day ms y m d h =
     ap (λ o. instant_from (sum_of o (behind_date (drop 10 (date_text year month day ++ 84 ∷ time_text ms ++ 90 ∷ []))))) date
     ∙ ap (λ o. instant_from (sum_of (date_at (Some year) (Some month) (Some day)) o)) time
 
-instant_at-within : (at : ℤ) → IsInstant at → instant_at at ≡ Some at
+pub instant_at-within : (at : ℤ) → IsInstant at → instant_at at ≡ Some at
 instant_at-within at h = grind (arith, ints)
 
 -- an instant, printed: its date and the millisecond of its day

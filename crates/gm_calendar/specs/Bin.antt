@@ -29,7 +29,8 @@ days_of_bin Week number = 7
 days_of_bin Month number = days_of_month (month_at number).year (month_at number).month
 days_of_bin Year number = days_of_year (1970 + number)
 
--- the day on which a bin starts: the first is day 0, 1970-01-01, and the next comes the days of this bin later
+-- the day on which a bin starts: the first is day 0, 1970-01-01, and the next comes the days of
+-- this bin later
 unfoldable pub bin_start : Period → ℕ → ℕ
 bin_start period zero = 0
 bin_start period (suc number) = bin_start period number + days_of_bin period number
@@ -45,7 +46,8 @@ last_ms period number = first_ms period (number + 1) -ℤ pos 1
 abbrev pub ms_since : Period → ℕ → ℤ → ℕ
 ms_since period number at = unsigned_abs (at -ℤ first_ms period number)
 
--- the bin starts at or before the instant and the next one after it, and the offset is the time since the start, in whole units
+-- the bin starts at or before the instant and the next one after it, and the offset is the time
+-- since the start, in whole units
 pub record IsBinOf (period : Period) (at : ℤ) (bin : Bin) : Type 0 where
   pub numbered : bin.number ≤ last_of period
   pub started : first_ms period bin.number ≤ℤ at

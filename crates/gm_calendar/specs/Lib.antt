@@ -1,7 +1,9 @@
 pub mod Bin
+pub mod Bytes
 pub mod Calendar
 pub mod Extent
 pub mod Instant
+pub mod Parts
 pub mod Period
-pub mod Place
+pub mod BinPlace
 pub mod Spelling

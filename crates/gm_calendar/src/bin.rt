@@ -4,10 +4,10 @@ ghost use Rattle.gm_calendar.specs.Bin.{first_ms, last_ms, bin_at, HasNumber, Li
 ghost use Rattle.gm_calendar.specs.declared.bin.Bin.{Bin};
 ghost use Rattle.gm_calendar.specs.Period.{last_of, longest_of};
 
+use crate::bin_place::bin_place_of;
 use crate::calendar::DAY_MS;
 use crate::extent::extent_of;
 use crate::period::{last_bin, unit_ms};
-use crate::place::place_of;
 use crate::{Instant, Period};
 
 /// A moment in a bin: the bin's number, and the time since its start in the unit of the period.
@@ -27,13 +27,13 @@ pub fn bin_of(period: Period, at: Instant) -> Option<Bin>
     if ms < 0 {
         return None;
     }
-    let place = place_of(period, ms as u64);
-    if place.number > u64::from(last_bin(period)) {
+    let bin_place = bin_place_of(period, ms as u64);
+    if bin_place.number > u64::from(last_bin(period)) {
         return None;
     }
     Some(Bin {
-        number: place.number as u16,
-        offset: (place.rest / unit_ms(period)) as u32,
+        number: bin_place.number as u16,
+        offset: (bin_place.rest / unit_ms(period)) as u32,
     })
 }
 
@@ -53,7 +53,8 @@ pub fn bin_span(period: Period, number: u16) -> (i64, i64)
 /// the starts, which instants a bin has, that bins follow one another, and that later instants
 /// have no earlier bin or offset. It does nothing.
 pub fn bins_follow_time(period: Period)
-    ensures by_starts { (at : ℤ) → MatchOption (bin_at period at) (HasNoBin period at) (IsBinOf period at) }
+    ensures by_starts { (at : ℤ)
+        → MatchOption (bin_at period at) (HasNoBin period at) (IsBinOf period at) }
     ensures span { (at : ℤ) (number : ℕ) → number ≤ last_of period
         → HasNumber period at number ↔ LiesIn period at number }
     ensures offset { (at : ℤ) → IfSome (bin_at period at) (λ bin. bin.offset < longest_of period) }

@@ -3,18 +3,18 @@
 #![tactic(auto)]
 
 mod bin;
+mod bin_place;
 mod calendar;
 mod extent;
 mod instant;
+mod laws;
 mod period;
-mod place;
 mod printer;
 mod reader;
-#[cfg(test)]
-mod tests;
 
 pub use bin::{Bin, bin_of, bin_span, bins_follow_time};
 pub use instant::{FIRST_MS, Instant, LAST_MS};
+pub use laws::{instants_are_spelled, instants_are_tested};
 pub use period::{Period, last_bin, span_of};
 pub use printer::{print_instant, printed_instants_are_read};
 pub use reader::read_instant;

@@ -4,6 +4,7 @@ ghost use Rattle.std.specs.List.{list_all};
 ghost use Rattle.std.specs.String.{string_bytes};
 ghost use Rattle.gm_calendar.specs.Calendar.{days_of_year, span_at};
 ghost use Rattle.gm_calendar.specs.Instant.{day_ms, IsInstant};
+ghost use Rattle.gm_calendar.specs.Parts.{SpellsInstant};
 ghost use Rattle.gm_calendar.specs.Spelling.{two_digits, ms_since_0000, day_text, date_text, second_text, time_text, instant_text, instant_of, is_instant_byte, has_date_form};
 
 use crate::Instant;
@@ -19,9 +20,9 @@ pub fn print_instant(alloc: Global, at: Instant) -> Result<Text, NoMemory>
 {
     let since = ms_from_0000(at);
     let mut text = String::with_capacity(alloc, 24)?;
-    push_day(&mut text, since / DAY_MS)?;
+    append_day(&mut text, since / DAY_MS)?;
     text.push('T')?;
-    push_time(&mut text, since % DAY_MS)?;
+    append_time(&mut text, since % DAY_MS)?;
     text.push('Z')?;
     Ok(Text::from_string(text))
 }
@@ -36,13 +37,13 @@ fn ms_from_0000(at: Instant) -> u64
 }
 
 // The date of a day that is counted from 0000-01-01.
-fn push_day(text: &mut String, day: u64) -> Result<(), NoMemory>
+fn append_day(text: &mut String, day: u64) -> Result<(), NoMemory>
     requires { day < 3_652_425 }
     ensures { IfOk result (λ _. string_bytes text.new
         ≡ string_bytes text.old ++ day_text (span_at days_of_year 10_000 0 day)) }
 {
     let date = date_from_0000(day);
-    push_date(
+    append_date(
         text,
         date.year() as u64,
         date.month() as u64,
@@ -51,54 +52,54 @@ fn push_day(text: &mut String, day: u64) -> Result<(), NoMemory>
 }
 
 #[tactic(auto, unfolding(crate::specs::Spelling::date_text))]
-fn push_date(text: &mut String, year: u64, month: u64, day: u64) -> Result<(), NoMemory>
+fn append_date(text: &mut String, year: u64, month: u64, day: u64) -> Result<(), NoMemory>
     requires year { year < 10_000 }
     requires month { month < 100 }
     requires day { day < 100 }
     ensures { IfOk result (λ _. string_bytes text.new
         ≡ string_bytes text.old ++ date_text year month day) }
 {
-    push_two(text, year / 100)?;
-    push_two(text, year % 100)?;
+    append_two(text, year / 100)?;
+    append_two(text, year % 100)?;
     text.push('-')?;
-    push_two(text, month)?;
+    append_two(text, month)?;
     text.push('-')?;
-    push_two(text, day)
+    append_two(text, day)
 }
 
 #[tactic(auto, unfolding(crate::specs::Spelling::time_text))]
-fn push_time(text: &mut String, ms: u64) -> Result<(), NoMemory>
+fn append_time(text: &mut String, ms: u64) -> Result<(), NoMemory>
     requires { ms < 86_400_000 }
     ensures { IfOk result (λ _. string_bytes text.new ≡ string_bytes text.old ++ time_text ms) }
 {
-    push_two(text, ms / 3_600_000)?;
+    append_two(text, ms / 3_600_000)?;
     text.push(':')?;
-    push_two(text, ms / 60_000 % 60)?;
+    append_two(text, ms / 60_000 % 60)?;
     text.push(':')?;
-    push_second(text, ms % 60_000)
+    append_second(text, ms % 60_000)
 }
 
 #[tactic(auto, unfolding(crate::specs::Spelling::second_text))]
-fn push_second(text: &mut String, ms: u64) -> Result<(), NoMemory>
+fn append_second(text: &mut String, ms: u64) -> Result<(), NoMemory>
     requires { ms < 60_000 }
     ensures { IfOk result (λ _. string_bytes text.new ≡ string_bytes text.old ++ second_text ms) }
 {
-    push_two(text, ms / 1_000)?;
+    append_two(text, ms / 1_000)?;
     text.push('.')?;
-    push_digit(text, ms % 1_000 / 100)?;
-    push_two(text, ms % 100)
+    append_digit(text, ms % 1_000 / 100)?;
+    append_two(text, ms % 100)
 }
 
-fn push_two(text: &mut String, number: u64) -> Result<(), NoMemory>
+fn append_two(text: &mut String, number: u64) -> Result<(), NoMemory>
     requires { number < 100 }
     ensures { IfOk result (λ _. string_bytes text.new
         ≡ string_bytes text.old ++ two_digits number) }
 {
-    push_digit(text, number / 10)?;
-    push_digit(text, number % 10)
+    append_digit(text, number / 10)?;
+    append_digit(text, number % 10)
 }
 
-fn push_digit(text: &mut String, digit: u64) -> Result<(), NoMemory>
+fn append_digit(text: &mut String, digit: u64) -> Result<(), NoMemory>
     requires { digit < 10 }
     ensures { IfOk result (λ _. string_bytes text.new
         ≡ string_bytes text.old ++ (48 + digit) ∷ []) }
@@ -107,9 +108,10 @@ fn push_digit(text: &mut String, digit: u64) -> Result<(), NoMemory>
     Ok(())
 }
 
-/// The laws of printed instants, for proofs: each is read again as the instant, begins with a date
-/// and has no byte but those of instants. It does nothing.
+/// The laws of printed instants, for proofs: each spells the instant, is read again as it, begins
+/// with a date and has no byte but those of instants. It does nothing.
 pub fn printed_instants_are_read()
+    ensures spelled { (at : ℤ) → IsInstant at → SpellsInstant (instant_text at) at }
     ensures reads_back { (at : ℤ) → IsInstant at → instant_of (instant_text at) ≡ Some at }
     ensures date { (at : ℤ) → IsInstant at → has_date_form (take 10 (instant_text at)) ≡ true }
     ensures bytes { (at : ℤ) → IsInstant at → list_all is_instant_byte (instant_text at) ≡ true }

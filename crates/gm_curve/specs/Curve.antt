@@ -2,7 +2,8 @@
 use Rattle.std.specs.Prelude.{◌≡◌, ◌<◌, ◌≤◌, ℕ, zero, suc, ◌+◌, ◌*◌, ◌^◌, List, [], ◌∷◌, slice_index}
 use Rattle.std.specs.Int.{bit_at}
 
--- the code of these coordinates: its bit D*j + d is bit j of coordinate d, for j under B, and it has no other bit
+-- the code of these coordinates: its bit D*j + d is bit j of coordinate d, for j under B, and it
+-- has no other bit
 pub record IsZCode (D B : ℕ) (at : List ℕ) (code : ℕ) : Type 0 where
   pub bits : (j d : ℕ) → j < B → d < D → bit_at code (D * j + d) ≡ bit_at (slice_index at d) j
   pub no_other : code < 2 ^ (D * B)

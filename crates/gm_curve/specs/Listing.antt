@@ -7,7 +7,8 @@ abbrev pub prefixed : ℕ → List (List ℕ) → List (List ℕ)
 prefixed zero rest = []
 prefixed (suc m) rest = prefixed m rest ++ map (λ path. m ∷ path) rest
 
--- the sequences of at most g numbers under 2^D: the empty one, followed, for q from 0, by the listing for g - 1 with q put before each member
+-- the sequences of at most g numbers under 2^D: the empty one, followed, for q from 0, by the
+-- listing for g - 1 with q put before each member
 abbrev pub listing : ℕ → ℕ → List (List ℕ)
 listing D zero = [] ∷ []
 listing D (suc g) = [] ∷ prefixed (2 ^ D) (listing D g)

@@ -5,7 +5,8 @@ use Rattle.gm_curve.specs.Listing.{listing, place_in}
 
 -- in each dimension low and high lie in one cell of this side or in two that touch
 abbrev pub IsCovered : ℕ → List ℕ → List ℕ → Type 0
-IsCovered side low high = (d : ℕ) → d < length low → slice_index high d / side ≤ slice_index low d / side + 1
+IsCovered side low high =
+    (d : ℕ) → d < length low → slice_index high d / side ≤ slice_index low d / side + 1
 
 -- the level of an object: the greatest up to G whose cells cover it so
 pub record IsLevel (G : ℕ) (low high : List ℕ) (l : ℕ) : Type 0 where

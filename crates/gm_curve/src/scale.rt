@@ -1,9 +1,9 @@
-// The cell of a place along one dimension.
+// The cell of a point along one dimension.
 ghost use Rattle.std.specs.Prelude.{◌≡◌, ◌≤◌, ◌^◌, ℕ};
 ghost use Rattle.gm_curve.specs.Scale.{normal_of};
 
-/// The cell, of 2^bits cells of one length along a span, in which the place u lies. The end of the
-/// span is in the last cell.
+/// The cell, of 2^bits cells of one length along a span, in which the point u of the span lies. Its
+/// end is in the last cell.
 pub fn normal(u: u64, span: u64, bits: u32) -> u32
     requires within { u ≤ span }
     requires some { 1 ≤ span }
@@ -17,7 +17,7 @@ pub fn normal(u: u64, span: u64, bits: u32) -> u32
     cell.min(cells - 1) as u32
 }
 
-/// A place that is not before another is in no earlier cell.
+/// A point that is not before another is in no earlier cell.
 pub fn normal_rises()
     ensures { (u v span bits : ℕ) → u ≤ v → normal_of u span bits ≤ normal_of v span bits }
 {}

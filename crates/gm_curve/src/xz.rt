@@ -65,7 +65,8 @@ fn longest_side(low: &[u32], high: &[u32]) -> u32
     requires length { length high.now ≡ length low.now }
     requires ordered { IsAtMost low.now high.now }
     ensures most { (d : ℕ) → slice_index high.now d ≤ slice_index low.now d + result }
-    ensures least { (n : ℕ) → ((d : ℕ) → slice_index high.now d ≤ slice_index low.now d + n) → result ≤ n }
+    ensures least { (n : ℕ)
+        → ((d : ℕ) → slice_index high.now d ≤ slice_index low.now d + n) → result ≤ n }
 {
     let mut side = 0u32;
     for (d, start) in low.iter().enumerate() {
@@ -120,11 +121,12 @@ pub fn sequences_by_bits<const D: usize, const G: u32>()
     ensures count { (l : ℕ) (low : List ℕ) → l ≤ G → length (sequence_of G l low) ≡ l }
     ensures bits { (l i d : ℕ) (low : List ℕ) → i < l → l ≤ G → d < length low
         → bit_at (slice_index (sequence_of G l low) i) d ≡ bit_at (slice_index low d) (G - 1 - i) }
-    ensures sequence { (l : ℕ) (low : List ℕ) → length low ≡ D → IsSequence D G (sequence_of G l low) }
+    ensures sequence { (l : ℕ) (low : List ℕ)
+        → length low ≡ D → IsSequence D G (sequence_of G l low) }
 {}
 
-/// The listing for g has as many members as `sequence_count` says, and each sequence of it stands at
-/// its place.
+/// The listing for g has as many members as `sequence_count` says, and each sequence of it stands
+/// at its place in it.
 pub fn sequences_are_listed<const D: usize>()
     ensures count { (g : ℕ) → length (listing D g) ≡ sequence_count D g }
     ensures listed { (g : ℕ) (path : List ℕ) → IsSequence D g path

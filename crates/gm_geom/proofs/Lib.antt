@@ -3,3 +3,5 @@ pub mod Lists
 pub mod Numbers
 pub mod Places
 pub mod RoundTrip
+pub mod Spelled
+pub mod Pieces

@@ -1,19 +1,10 @@
 -- Lists joined end to end, and the last of a list.
-use Rattle.std.proofs.Common.{◌≡◌, ℕ, ◌-◌, ◌<◌, ◌≤◌, leb as nat_le, le-leb, Bool, true, false, ◌&&◌, List, [], ◌∷◌, ◌++◌, length, get_or, refl, sym, ap, ◌∙◌, arith}
+use Rattle.std.proofs.Common.{◌≡◌, ℕ, ◌-◌, ◌<◌, ◌≤◌, leb as nat_le, le-leb, Bool, true, false, ◌&&◌, List, [], ◌∷◌, length, get_or, refl, sym, ap, ◌∙◌, arith}
 use Rattle.std.specs.List.{list_all}
-use Rattle.std.proofs.lemmas.List.Folds.{list_all_at}
+use Rattle.std.proofs.lemmas.List.Folds.{list_all_at, list_all-append}
 use Rattle.gm_geom.specs.declared.place.Point.{Point}
 use Rattle.gm_geom.specs.Geometry.{joined}
 use Rattle.gm_geom.specs.Validity.{last_after, is_closed, is_same}
-
-and_assoc : (a b c : Bool) → (a && (b && c)) ≡ ((a && b) && c)
-and_assoc true b c = refl
-and_assoc false b c = refl
-
--- a test of each element of one list behind another
-pub list_all-append : {X : Type 0} (test : X → Bool) (xs ys : List X) → list_all test (xs ++ ys) ≡ (list_all test xs && list_all test ys)
-list_all-append test [] ys = refl
-list_all-append test (x ∷ xs) ys = ap (λ b. test x && b) (list_all-append test xs ys) ∙ and_assoc (test x) (list_all test xs) (list_all test ys)
 
 -- a test of each element of joined lists
 pub list_all-joined : {X : Type 0} (test : X → Bool) (xss : List (List X)) → list_all test (joined xss) ≡ list_all (λ xs. list_all test xs) xss

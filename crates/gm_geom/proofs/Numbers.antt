@@ -4,6 +4,7 @@ use Rattle.std.specs.List.{list_all, prefix_len}
 use Rattle.std.specs.Char.{is_ascii_digit, digit_value}
 use Rattle.std.specs.Str.Parse.{digits_value, digits_value_after}
 use Rattle.std.proofs.lemmas.Nat.{pow-add, div-mul-add}
+use Rattle.std.proofs.lemmas.Bool.{and_parts}
 use Rattle.std.proofs.lemmas.Bool.Decides.{nat_tests}
 use Rattle.std.proofs.Math.Nat.{mul-div-mul_left, add-mul-div_right, div-div-eq-div-mul, pow-succ', one-le-pow, pow-le-pow_right}
 use Rattle.gm_geom.specs.declared.number.Exponent.{Exponent}
@@ -60,22 +61,11 @@ nearest_step n (suc j) some = whole
     whole : nearest (n / 10) (10 ^ suc j) ≡ nearest n (10 ^ (suc j + 1))
     whole = ap (λ p. nearest (n / 10) p) even ∙ step n (5 * 10 ^ j) some_h ∙ ap (λ p. nearest n p) (sym more)
 
-pub nearest_last : (n : ℕ) → nearest n (10 ^ 1) ≡ (n + 5) / 10
-nearest_last n = half_even n 5 (lit< tt)
-
 -- each of them is a digit
 pub digit_in : (ds : List ℕ) (i d : ℕ) → AreDigits ds → i < length ds → is_ascii_digit (get_or ds i d) ≡ true
 digit_in [] i d all below = absurd (omega arith)
-digit_in (b ∷ ds) zero d all below = first (is_ascii_digit b) (list_all is_ascii_digit ds) all
-  where
-    first : (a b : Bool) → (a && b) ≡ true → a ≡ true
-    first true b e = refl
-    first false b e = e
-digit_in (b ∷ ds) (suc i) d all below = digit_in ds i d (second (is_ascii_digit b) (list_all is_ascii_digit ds) all) (omega arith)
-  where
-    second : (a b : Bool) → (a && b) ≡ true → b ≡ true
-    second true b e = e
-    second false b e = absurd (cc)
+digit_in (b ∷ ds) zero d all below = (and_parts (is_ascii_digit b) (list_all is_ascii_digit ds) all).0
+digit_in (b ∷ ds) (suc i) d all below = digit_in ds i d (and_parts (is_ascii_digit b) (list_all is_ascii_digit ds) all).1 (omega arith)
 
 pub digit_low : (c : ℕ) → is_ascii_digit c ≡ true → 48 ≤ c
 digit_low c e = grind (arith, nat_tests)

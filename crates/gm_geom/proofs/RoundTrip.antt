@@ -14,23 +14,20 @@ use mir.Syntax.{w32}
 use mir.Val.{SFits}
 use Rattle.gm_geom.specs.Number.{AreDigits, digits_at, behind_digits, fraction_at, behind_fraction, exponent_of, mantissa_number, unsigned_number, nearest, magnitude_of, signed, in_range, rounded, fixed_of, if_number, places_of, fraction_text, fixed_text, is_number_byte}
 use Rattle.gm_geom.proofs.Numbers.{nearest_up, digits_value-append, digit_value_is, digit_low, pow_pos}
-use Rattle.gm_geom.proofs.Lists.{list_all-append}
+use Rattle.std.proofs.lemmas.List.Folds.{list_all-append}
+use Rattle.std.proofs.lemmas.Bool.{and_parts}
 use Rattle.gm_geom.proofs.Places.{places_next, places_none, next_digit, some_test}
 
 -- no digit stands first
-abbrev Stops : List ℕ → Type 0
+abbrev pub Stops : List ℕ → Type 0
 Stops [] = Unit {0}
 Stops (b ∷ bytes) = is_ascii_digit b ≡ false
-
-both : (a b : Bool) → (a && b) ≡ true → (a ≡ true) × (b ≡ true)
-both true b e = (refl, e)
-both false b e = absurd (cc)
 
 run : (ds rest : List ℕ) → AreDigits ds → Stops rest → prefix_len is_ascii_digit (ds ++ rest) ≡ length ds
 run [] [] all stops = refl
 run [] (b ∷ rest) all stops = ap (λ t. cond t (1 + prefix_len is_ascii_digit rest) 0) stops
 run (d ∷ ds) rest all stops =
-    let each : (is_ascii_digit d ≡ true) × (list_all is_ascii_digit ds ≡ true) = both (is_ascii_digit d) (list_all is_ascii_digit ds) all in
+    let each : (is_ascii_digit d ≡ true) × (list_all is_ascii_digit ds ≡ true) = and_parts (is_ascii_digit d) (list_all is_ascii_digit ds) all in
     ap (λ t. cond t (1 + prefix_len is_ascii_digit (ds ++ rest)) 0) each.0 ∙ ap (λ n. 1 + n) (run ds rest each.1 stops) ∙ omega arith
 
 take_front : (ds rest : List ℕ) → take (length ds) (ds ++ rest) ≡ ds
@@ -41,10 +38,10 @@ drop_front : (ds rest : List ℕ) → drop (length ds) (ds ++ rest) ≡ rest
 drop_front [] rest = refl
 drop_front (d ∷ ds) rest = drop_front ds rest
 
-digits_front : (ds rest : List ℕ) → AreDigits ds → Stops rest → digits_at (ds ++ rest) ≡ ds
+pub digits_front : (ds rest : List ℕ) → AreDigits ds → Stops rest → digits_at (ds ++ rest) ≡ ds
 digits_front ds rest all stops = ap (λ n. take n (ds ++ rest)) (run ds rest all stops) ∙ take_front ds rest
 
-behind_front : (ds rest : List ℕ) → AreDigits ds → Stops rest → behind_digits (ds ++ rest) ≡ rest
+pub behind_front : (ds rest : List ℕ) → AreDigits ds → Stops rest → behind_digits (ds ++ rest) ≡ rest
 behind_front ds rest all stops = ap (λ n. drop n (ds ++ rest)) (run ds rest all stops) ∙ drop_front ds rest
 
 digit_from_value : (c : ℕ) → digit_value c < 10 → is_ascii_digit c ≡ true
@@ -132,7 +129,7 @@ magnitude_again negative w r ds value small =
 plain_sign : (ds rest : List ℕ) → AreDigits ds → 0 < length ds → (starts_with_minus (ds ++ rest) ≡ false) × (without_leading_sign (ds ++ rest) ≡ ds ++ rest)
 plain_sign [] rest all some = absurd (omega arith)
 plain_sign (d ∷ ds) rest all some =
-    let digit : is_ascii_digit d ≡ true = (both (is_ascii_digit d) (list_all is_ascii_digit ds) all).0 in
+    let digit : is_ascii_digit d ≡ true = (and_parts (is_ascii_digit d) (list_all is_ascii_digit ds) all).0 in
     let minus : (d == 45) ≡ false = not_digit d 45 digit (lit< tt) in
     let plus : (d == 43) ≡ false = not_digit d 43 digit (lit< tt) in
     (minus, rw (minus, plus) refl)
@@ -194,7 +191,7 @@ reads_again (negsuc m) fits =
 digit_bytes : (ds : List ℕ) → AreDigits ds → list_all is_number_byte ds ≡ true
 digit_bytes [] all = refl
 digit_bytes (d ∷ ds) all =
-    let each : (is_ascii_digit d ≡ true) × (list_all is_ascii_digit ds ≡ true) = both (is_ascii_digit d) (list_all is_ascii_digit ds) all in
+    let each : (is_ascii_digit d ≡ true) × (list_all is_ascii_digit ds ≡ true) = and_parts (is_ascii_digit d) (list_all is_ascii_digit ds) all in
     ap (λ t. (t || (((d == 43 || d == 45) || d == 46) || (d == 101 || d == 69))) && list_all is_number_byte ds) each.0 ∙ digit_bytes ds each.1
 
 fraction_bytes : (r : ℕ) → r < 10 ^ 7 → list_all is_number_byte (fraction_text r) ≡ true

@@ -9,6 +9,21 @@ use Rattle.gm_geom.specs.declared.validity.GeomFault.{GeomFault}
 use Rattle.gm_geom.specs.declared.validity.GeomFault.TheVariants.{Many, Range, Short, Ring}
 use Rattle.gm_geom.specs.Geometry.{points_of, lines_of, rings_of}
 
+-- the most points of a geometry
+abbrev pub point_limit : ℕ
+point_limit = 10000
+
+-- the degrees of longitude and of latitude on either side, in units
+abbrev pub longitude_limit : ℕ
+longitude_limit = 1800000000
+
+abbrev pub latitude_limit : ℕ
+latitude_limit = 900000000
+
+-- the fewest points of a ring
+abbrev pub ring_least : ℕ
+ring_least = 4
+
 -- whether z lies from -n to n
 abbrev pub is_within : ℕ → ℤ → Bool
 is_within n (pos m) = nat_le m n
@@ -16,7 +31,7 @@ is_within n (negsuc m) = nat_lt m n
 
 -- 180 degrees of longitude and 90 of latitude on either side
 abbrev pub is_in_world : Point → Bool
-is_in_world p = is_within 1800000000 p.x && is_within 900000000 p.y
+is_in_world p = is_within longitude_limit p.x && is_within latitude_limit p.y
 
 abbrev pub is_empty : {X : Type 0} → List X → Bool
 is_empty [] = true
@@ -49,12 +64,13 @@ is_same p q = int_eq p.x q.x && int_eq p.y q.y
 -- at least four points, the last of them the first
 abbrev pub is_closed : List Point → Bool
 is_closed [] = false
-is_closed (p ∷ points) = nat_le 4 (length (p ∷ points)) && is_same p (last_after p points)
+is_closed (p ∷ points) =
+    nat_le ring_least (length (p ∷ points)) && is_same p (last_after p points)
 
 -- what is wrong first, if anything is
 abbrev pub fault_of : Geometry → Option GeomFault
 fault_of geometry =
-    if nat_lt 10000 (length (points_of geometry)) then Some Many
+    if nat_lt point_limit (length (points_of geometry)) then Some Many
     else (if not (list_all is_in_world (points_of geometry)) then Some Range
     else (if has_empty_list geometry || list_any has_one_point (lines_of geometry) then Some Short
     else (if not (list_all is_closed (rings_of geometry)) then Some Ring

@@ -1,8 +1,24 @@
 // Laws of the definitions, for the crates above.
-ghost use Rattle.std.specs.Prelude.{◌≡◌, ◌<◌, ◌≤◌, ◌++◌, ◌-◌, [], ◌∷◌, length, ℤ, ℕ, true, Ok, FitsSigned};
+ghost use Rattle.std.specs.Prelude.{◌≡◌, ◌↔◌, List, ℤ, ℕ, true, Ok, Err, FitsSigned};
 ghost use Rattle.std.specs.Int.{w32};
 ghost use Rattle.std.specs.List.{list_all};
-ghost use Rattle.gm_geom.specs.Number.{fixed_of, fixed_text, is_number_byte};
+ghost use Rattle.gm_geom.specs.declared.number.Number.{Number};
+ghost use Rattle.gm_geom.specs.declared.number.NumberFault.TheVariants.{Form, Big};
+ghost use Rattle.gm_geom.specs.Number.{fixed_of, fixed_text, is_number_byte, number_of, rounded, SpellsNumber, SpellsFixed};
+
+/// A text spells a number exactly where the function gives it, and so at most one. Its fixed
+/// number is the function's, and the two faults come where it spells none, or one that is too big.
+pub fn numbers_are_spelled()
+    ensures number { (text : List ℕ) (n : Number)
+        → SpellsNumber text n ↔ (number_of text ≡ Some n) }
+    ensures one { (text : List ℕ) (n m : Number)
+        → SpellsNumber text n → SpellsNumber text m → n ≡ m }
+    ensures fixed { (text : List ℕ) (z : ℤ) → SpellsFixed text z ↔ (fixed_of text ≡ Ok z) }
+    ensures form { (text : List ℕ)
+        → ((n : Number) → SpellsNumber text n → ⊥) ↔ (fixed_of text ≡ Err Form) }
+    ensures big { (text : List ℕ)
+        → ((n : Number) × SpellsNumber text n × (rounded n ≡ Err Big)) ↔ (fixed_of text ≡ Err Big) }
+{}
 
 /// Reading the spelling of a fixed number gives the number again.
 pub fn reads_back()

@@ -7,13 +7,11 @@ mod laws;
 mod number;
 mod place;
 mod printing;
-#[cfg(test)]
-mod tests;
 mod validity;
 
 pub use extent::bounds;
 pub use geometry::{Areas, Geometry, Lines, Points, Rings};
-pub use laws::{has_number_bytes, reads_back};
+pub use laws::{has_number_bytes, numbers_are_spelled, reads_back};
 pub use number::{NUMBER_LIMIT, NumberFault, read_fixed};
 pub use place::{Box2, Point};
 pub use printing::{append_fixed, print_fixed};

@@ -41,8 +41,8 @@ struct Exponent {
     value: u32,
 }
 
-// A number as it is written: a whole number of which the last places stand behind the point, times a
-// power of ten.
+// A number as it is written: a whole number of which the last places stand behind the point, times
+// a power of ten.
 #[derive(Clone, Copy)]
 struct Number {
     negative: bool,
@@ -51,8 +51,8 @@ struct Number {
     exponent: Exponent,
 }
 
-/// The number that the text spells, in units of 10^-7, rounded to the nearest, a half away from 0. It
-/// takes no memory.
+/// The number that the text spells, in units of 10^-7, rounded to the nearest, a half away from 0.
+/// It takes no memory.
 pub fn read_fixed(text: &[u8]) -> Result<i32, NumberFault>
     ensures { result ≡ spec.fixed_of text.now }
 {
@@ -234,7 +234,7 @@ fn scaled(number: u128, up: u32, down: u32) -> Option<u32>
 fn raised(mut number: u128, mut places: u32) -> Option<u32>
     ensures { IsCapped result (number * 10 ^ places) }
 {
-    'places: while places > 0 {
+    'places: while places > 0 && number > 0 {
         if number > FURTHEST {
             return None;
         }
@@ -259,7 +259,7 @@ fn lowered(mut number: u128, mut places: u32) -> u128
     requires small { number < 10 ^ 38 }
     ensures { result ≡ nearest number (10 ^ places) }
 {
-    'places: while places > 1 {
+    'places: while places > 1 && number > 0 {
         number /= 10;
         places -= 1;
     }

@@ -2,11 +2,10 @@
 ghost use Rattle.std.specs.Prelude.{◌≡◌, ◌<◌, ◌^◌, ◌++◌, ◌+◌, ◌/◌, [], ◌∷◌, IfOk, OnOk};
 ghost use Rattle.std.specs.String.{string_bytes};
 ghost use Rattle.std.specs.Fmt.{decimal};
-ghost use Rattle.gm_geom.specs.Number.{fixed_text, fixed_of, fraction_text, minus_text, places_of};
+ghost use Rattle.gm_geom.specs.Number.{BeginsWith, fixed_text, fixed_of, fraction_text, minus_text, places_of};
 
 use gm_base::{NoMemory, Text};
 use std::alloc::Global;
-use std::fmt::Write;
 
 /// The units of a degree.
 const DEGREE: u32 = 10_000_000;
@@ -23,9 +22,10 @@ pub fn print_fixed(alloc: Global, value: i32) -> Result<Text, NoMemory>
     Ok(Text::from_string(out))
 }
 
-/// Appends the spelling of a fixed number.
+/// Appends the spelling of a fixed number. After `NoMemory` the text may end with a part of it.
 pub fn append_fixed(out: &mut String, value: i32) -> Result<(), NoMemory>
-    ensures { OnOk result (string_bytes out.new ≡ string_bytes out.old ++ fixed_text value) }
+    ensures text { OnOk result (string_bytes out.new ≡ string_bytes out.old ++ fixed_text value) }
+    ensures kept { BeginsWith (string_bytes out.new) (string_bytes out.old) }
 {
     let magnitude = value.unsigned_abs();
     append_minus(out, value)?;
@@ -34,7 +34,8 @@ pub fn append_fixed(out: &mut String, value: i32) -> Result<(), NoMemory>
 }
 
 fn append_minus(out: &mut String, value: i32) -> Result<(), NoMemory>
-    ensures { OnOk result (string_bytes out.new ≡ string_bytes out.old ++ minus_text value) }
+    ensures text { OnOk result (string_bytes out.new ≡ string_bytes out.old ++ minus_text value) }
+    ensures kept { BeginsWith (string_bytes out.new) (string_bytes out.old) }
 {
     if value < 0 {
         out.push_str("-")?;
@@ -42,17 +43,23 @@ fn append_minus(out: &mut String, value: i32) -> Result<(), NoMemory>
     Ok(())
 }
 
+// The digits of a whole number.
 fn append_whole(out: &mut String, whole: u32) -> Result<(), NoMemory>
-    ensures { OnOk result (string_bytes out.new ≡ string_bytes out.old ++ decimal whole) }
+    ensures text { OnOk result (string_bytes out.new ≡ string_bytes out.old ++ decimal whole) }
+    ensures kept { BeginsWith (string_bytes out.new) (string_bytes out.old) }
 {
-    write!(out, "{whole}")?;
-    Ok(())
+    if whole < 10 {
+        return append_digit(out, whole);
+    }
+    append_whole(out, whole / 10)?;
+    append_digit(out, whole % 10)
 }
 
 // The point and the places of a rest below a degree, where it is not 0.
 fn append_fraction(out: &mut String, rest: u32) -> Result<(), NoMemory>
     requires { rest < 10 ^ 7 }
-    ensures { OnOk result (string_bytes out.new ≡ string_bytes out.old ++ fraction_text rest) }
+    ensures text { OnOk result (string_bytes out.new ≡ string_bytes out.old ++ fraction_text rest) }
+    ensures kept { BeginsWith (string_bytes out.new) (string_bytes out.old) }
 {
     if rest == 0 {
         return Ok(());
@@ -63,7 +70,8 @@ fn append_fraction(out: &mut String, rest: u32) -> Result<(), NoMemory>
 
 fn append_places(out: &mut String, mut rest: u32) -> Result<(), NoMemory>
     requires { rest < 10 ^ 7 }
-    ensures { OnOk result (string_bytes out.new ≡ string_bytes out.old ++ places_of 7 rest) }
+    ensures text { OnOk result (string_bytes out.new ≡ string_bytes out.old ++ places_of 7 rest) }
+    ensures kept { BeginsWith (string_bytes out.new) (string_bytes out.old) }
 {
     let mut places = 7;
     'places: while rest > 0 {
@@ -77,7 +85,8 @@ fn append_places(out: &mut String, mut rest: u32) -> Result<(), NoMemory>
 
 fn append_digit(out: &mut String, digit: u32) -> Result<(), NoMemory>
     requires { digit < 10 }
-    ensures { OnOk result (string_bytes out.new ≡ string_bytes out.old ++ (48 + digit) ∷ []) }
+    ensures text { OnOk result (string_bytes out.new ≡ string_bytes out.old ++ (48 + digit) ∷ []) }
+    ensures kept { BeginsWith (string_bytes out.new) (string_bytes out.old) }
 {
     out.push(char::from(b'0' + digit as u8))?;
     Ok(())

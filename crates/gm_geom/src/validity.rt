@@ -10,6 +10,15 @@ use thiserror::Error;
 /// The greatest number of points of a geometry.
 pub const POINT_LIMIT: usize = 10_000;
 
+/// 180 degrees, in units.
+const LONGITUDE_LIMIT: u32 = 1_800_000_000;
+
+/// 90 degrees, in units.
+const LATITUDE_LIMIT: u32 = 900_000_000;
+
+/// The least number of points of a ring.
+const RING_LEAST: usize = 4;
+
 /// Why a geometry is not kept. Each comes only where none before it does.
 #[derive(Clone, Copy, Debug, PartialEq, Eq, Error)]
 pub enum GeomFault {
@@ -28,7 +37,9 @@ pub enum GeomFault {
 
 /// Tests a geometry. It takes no memory.
 pub fn check(geometry: &Geometry) -> Result<(), GeomFault>
-    ensures { MatchResult result (λ _. spec.fault_of geometry.now ≡ None) (λ fault. spec.fault_of geometry.now ≡ Some fault) }
+    ensures { MatchResult result
+        (λ _. spec.fault_of geometry.now ≡ None)
+        (λ fault. spec.fault_of geometry.now ≡ Some fault) }
 {
     if has_many(geometry) {
         return Err(GeomFault::Many);
@@ -46,7 +57,7 @@ pub fn check(geometry: &Geometry) -> Result<(), GeomFault>
 }
 
 fn has_many(geometry: &Geometry) -> bool
-    ensures { result ≡ nat_lt 10000 (length (points_of geometry.now)) }
+    ensures { result ≡ nat_lt spec.point_limit (length (points_of geometry.now)) }
 {
     let count = match geometry {
         Geometry::Point(_) => 1,
@@ -96,7 +107,7 @@ fn is_in_world(geometry: &Geometry) -> bool
 fn is_point_in_world(point: Point) -> bool
     ensures { result ≡ spec.is_in_world point }
 {
-    is_within(1_800_000_000, point.x) && is_within(900_000_000, point.y)
+    is_within(LONGITUDE_LIMIT, point.x) && is_within(LATITUDE_LIMIT, point.y)
 }
 
 fn is_within(limit: u32, coordinate: i32) -> bool
@@ -236,7 +247,7 @@ fn is_closed(ring: &[Point]) -> bool
     ensures { result ≡ spec.is_closed ring.now }
 {
     match ring {
-        [first, .., last] => ring.len() >= 4 && is_same(*first, *last),
+        [first, .., last] => ring.len() >= RING_LEAST && is_same(*first, *last),
         _ => false,
     }
 }

@@ -1,5 +1,6 @@
 -- Keywords and what stands behind them.
 use Rattle.std.proofs.Common.{◌≡◌, ℕ, Bool, true, false, ◌&&◌, ◌==◌, cond, List, [], ◌∷◌, ◌++◌, map, take, drop, Option, Some, None, refl, sym, ap, ◌∙◌, subst, arith, eqb-true}
+use Rattle.std.proofs.lemmas.Bool.{and_parts}
 use Rattle.std.specs.List.{list_all}
 use Rattle.std.specs.Char.{is_ascii_alphabetic, is_ascii_lowercase, to_ascii_lowercase}
 use Rattle.std.specs.Cmp.Lexicographic.{pointwise}
@@ -12,7 +13,7 @@ use Rattle.gm_wkt.specs.declared.keyword.Keyword.TheVariants as keyword
 use Rattle.gm_wkt.specs.Grammar.{is_blank, AreBlanks, keyword_text, keyword_of, SpellsLone, SpellsLine, SpellsRings, SpellsLoose, SpellsPosition, SpellsList, SpellsBody, SpellsText}
 use Rattle.gm_wkt.specs.Reading.{skip_blanks, Starts, Stops}
 use Rattle.gm_wkt.specs.Words.{letter_run, is_named, keyword_named}
-use Rattle.gm_wkt.proofs.Scans.{both, take_run, drop_run, take_drop, skip_over, skipped}
+use Rattle.gm_wkt.proofs.Scans.{take_run, drop_run, take_drop, skip_over, skipped}
 
 lower_letter : (b c : ℕ) → to_ascii_lowercase b ≡ c → is_ascii_lowercase c ≡ true → is_ascii_alphabetic b ≡ true
 lower_letter b c e low = grind (arith, nat_tests)
@@ -23,7 +24,7 @@ letters (b ∷ name) [] e low = absurd (cc)
 letters (b ∷ name) (c ∷ word) e low =
     let head : to_ascii_lowercase b ≡ c = cc in
     let tail : map to_ascii_lowercase name ≡ word = cc in
-    let each = both (is_ascii_lowercase c) (list_all is_ascii_lowercase word) low in
+    let each = and_parts (is_ascii_lowercase c) (list_all is_ascii_lowercase word) low in
     ap (λ t. t && list_all is_ascii_alphabetic name) (lower_letter b c head each.0) ∙ letters name word tail each.1
 
 keyword_low : (k : Keyword) → list_all is_ascii_lowercase (map to_ascii_lowercase (keyword_text k)) ≡ true
@@ -47,7 +48,7 @@ same_list [] [] e = refl
 same_list [] (y ∷ ys) e = absurd (cc)
 same_list (x ∷ xs) [] e = absurd (cc)
 same_list (x ∷ xs) (y ∷ ys) e =
-    let each = both (x == y) (pointwise ◌==◌ xs ys) e in
+    let each = and_parts (x == y) (pointwise ◌==◌ xs ys) e in
     ap (λ n. n ∷ xs) (eqb-true x y each.0) ∙ ap (λ l. y ∷ l) (same_list xs ys each.1)
 
 -- a test that passes, or the choice behind it
@@ -87,7 +88,7 @@ blank_no_letter b e = grind (arith, nat_tests)
 
 gap_stops : (gap rest : List ℕ) → AreBlanks gap → Stops is_ascii_alphabetic rest → Stops is_ascii_alphabetic (gap ++ rest)
 gap_stops [] rest blanks stops = stops
-gap_stops (b ∷ gap) rest blanks stops = blank_no_letter b (both (is_blank b) (list_all is_blank gap) blanks).0
+gap_stops (b ∷ gap) rest blanks stops = blank_no_letter b (and_parts (is_blank b) (list_all is_blank gap) blanks).0
 
 -- what a text that spells a geometry is cut into
 pub text_parts : (text : List ℕ) (g : Geometry) (s : SpellsText text g) → (take (letter_run text) text ≡ s.name) × (skip_blanks (drop (letter_run text) text) ≡ s.body)

@@ -1,5 +1,6 @@
 pub mod Keywords
 pub mod Members
+pub mod OnALine
 pub mod Points
 pub mod Positions
 pub mod Prints

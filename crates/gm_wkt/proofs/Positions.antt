@@ -1,12 +1,13 @@
 -- What is read as a number or a position is spelled so, and the other way round.
 use Rattle.std.proofs.Common.{◌≡◌, ℕ, ◌<◌, Bool, true, false, cond, ℤ, List, [], ◌∷◌, ◌++◌, length, take, drop, Option, Some, None, refl, sym, ap, ◌∙◌, subst, arith, append_assoc}
+use Rattle.std.proofs.lemmas.Bool.{and_parts}
 use Rattle.std.specs.List.{list_all}
 use Rattle.std.specs.Option.{option_map, option_and_then}
 use Rattle.gm_geom.specs.declared.place.Point.{Point}
 use Rattle.gm_geom.specs.Number.{is_number_byte}
 use Rattle.gm_wkt.specs.Grammar.{is_blank, AreBlanks, coordinate_of, SpellsNumber, SpellsPosition}
 use Rattle.gm_wkt.specs.Reading.{skip_blanks, number_run, number_at, begins_blank, second_at, position_at, Starts, Ends, Takes}
-use Rattle.gm_wkt.proofs.Scans.{both, take_run, drop_run, run_passes, take_drop, skip_over, blank_gap, number_starts, blank_ends}
+use Rattle.gm_wkt.proofs.Scans.{take_run, drop_run, run_passes, take_drop, skip_over, blank_gap, number_starts, blank_ends}
 
 pub map_some : {A B : Type 0} (f : A → B) (o : Option A) (b : B) → option_map f o ≡ Some b → (a : A) × (o ≡ Some a) × (f a ≡ b)
 map_some f None b e = absurd (cc)
@@ -35,7 +36,7 @@ number_first [] rest z spells = absurd (none spells.value)
   where
     none : coordinate_of [] ≡ Some z → ⊥
     none e = cc
-number_first (b ∷ bs) rest z spells = (b, bs ++ rest, refl, (both (is_number_byte b) (list_all is_number_byte bs) spells.bytes_of).0)
+number_first (b ∷ bs) rest z spells = (b, bs ++ rest, refl, (and_parts (is_number_byte b) (list_all is_number_byte bs) spells.bytes_of).0)
 
 -- positions
 second_found : (x : ℤ) (text : List ℕ) (r : Point × List ℕ) → second_at x text ≡ Some r → (gap second : List ℕ) × (0 < length gap) × AreBlanks gap × SpellsNumber second r.0.y × (r.0.x ≡ x) × (text ≡ gap ++ (second ++ r.1))
@@ -83,7 +84,7 @@ second_only x [] second tail y some blanks spells ends = absurd (omega arith)
 second_only x (b ∷ gap) second tail y some blanks spells ends =
     let first = number_first second tail y spells in
     let starts : Starts (second ++ tail) = subst (λ t. Starts t) (sym first.2) (number_starts first.0 first.3) in
-    ap (λ t. cond t (option_map (λ n. (record { x = x; y = n.0 }, n.1)) (number_at (skip_blanks ((b ∷ gap) ++ (second ++ tail))))) None) (both (is_blank b) (list_all is_blank gap) blanks).0
+    ap (λ t. cond t (option_map (λ n. (record { x = x; y = n.0 }, n.1)) (number_at (skip_blanks ((b ∷ gap) ++ (second ++ tail))))) None) (and_parts (is_blank b) (list_all is_blank gap) blanks).0
     ∙ ap (λ t. option_map (λ n. (record { x = x; y = n.0 }, n.1)) (number_at t)) (skip_over (b ∷ gap) (second ++ tail) blanks starts)
     ∙ ap (λ o. option_map (λ n. (record { x = x; y = n.0 }, n.1)) o) (number_only second tail y spells ends)
 
@@ -98,7 +99,7 @@ position_only front tail p s ends =
 
     gap_ends : (gap rest : List ℕ) → 0 < length gap → AreBlanks gap → Ends (gap ++ rest)
     gap_ends [] rest some blanks = absurd (omega arith)
-    gap_ends (b ∷ gap) rest some blanks = blank_ends b (both (is_blank b) (list_all is_blank gap) blanks).0
+    gap_ends (b ∷ gap) rest some blanks = blank_ends b (and_parts (is_blank b) (list_all is_blank gap) blanks).0
 
 pub position_starts : (bytes rest : List ℕ) (p : Point) → SpellsPosition bytes p → (b : ℕ) × (more : List ℕ) × (bytes ++ rest ≡ b ∷ more) × (is_number_byte b ≡ true)
 position_starts bytes rest p s =

@@ -1,5 +1,6 @@
 -- What is printed of a geometry that is kept spells it.
 use Rattle.std.proofs.Common.{◌≡◌, ℕ, ◌<◌, Bool, true, false, ◌&&◌, ◌||◌, not, ℤ, pos, negsuc, List, [], ◌∷◌, ◌++◌, Some, None, Ok, inr, refl, sym, ap, ◌∙◌, arith, ltb-true, leb-true, lit<, if◌then◌else◌, ◌^◌}
+use Rattle.std.proofs.lemmas.Bool.{and_parts, or_parts}
 use Rattle.std.specs.List.{list_all, list_any, AllByRecursion}
 use Rattle.std.proofs.lemmas.List.Concat.{flat_map-append}
 use Rattle.gm_geom.specs.declared.place.Point.{Point}
@@ -11,7 +12,6 @@ use Rattle.gm_geom.specs.Geometry.{joined, points_of, lines_of}
 use Rattle.gm_geom.specs.Validity.{is_within, is_in_world, is_empty, is_hollow, has_empty_list, has_one_point, fault_of}
 use Rattle.gm_wkt.specs.Grammar.{AreBlanks, coordinate_from, SpellsNumber, SpellsPosition, SpellsMembers, SpellsList, SpellsLine, SpellsRings, SpellsLone, SpellsLoose, SpellsBody, SpellsText, keyword_text, keyword_of}
 use Rattle.gm_wkt.specs.Printing.{position_text, members_text, list_text, line_text, rings_text, lone_text, body_text, printed, FitsPoint}
-use Rattle.gm_wkt.proofs.Scans.{both}
 use mir.Syntax.{w32}
 use mir.Val.{SFits}
 
@@ -84,32 +84,28 @@ within_fits n (negsuc m) small e = record { sfits = omega (arith, ltb-true m n e
 
 point_fits : (p : Point) → is_in_world p ≡ true → FitsPoint p
 point_fits p e =
-    let each = both (is_within 1800000000 p.x) (is_within 900000000 p.y) e in
+    let each = and_parts (is_within 1800000000 p.x) (is_within 900000000 p.y) e in
     record { x = within_fits 1800000000 p.x (lit< tt) each.0; y = within_fits 900000000 p.y (lit< tt) each.1 }
 
 points_fit : (points : List Point) → list_all is_in_world points ≡ true → AllByRecursion FitsPoint points
 points_fit [] e = tt
-points_fit (p ∷ ps) e = let each = both (is_in_world p) (list_all is_in_world ps) e in (point_fits p each.0, points_fit ps each.1)
+points_fit (p ∷ ps) e = let each = and_parts (is_in_world p) (list_all is_in_world ps) e in (point_fits p each.0, points_fit ps each.1)
 
 full_line : (points : List Point) → is_empty points ≡ false → list_all is_in_world points ≡ true → IsFull FitsPoint points
 full_line [] some e = absurd (cc)
 full_line (p ∷ ps) some e = points_fit (p ∷ ps) e
 
-neither : (a b : Bool) → (a || b) ≡ false → (a ≡ false) × (b ≡ false)
-neither true b e = absurd (cc)
-neither false b e = (refl, e)
-
 all_split : {X : Type 0} (test : X → Bool) (xs ys : List X) → list_all test (xs ++ ys) ≡ true → (list_all test xs ≡ true) × (list_all test ys ≡ true)
 all_split test [] ys e = (refl, e)
 all_split test (x ∷ xs) ys e =
-    let each = both (test x) (list_all test (xs ++ ys)) e in
+    let each = and_parts (test x) (list_all test (xs ++ ys)) e in
     let rest = all_split test xs ys each.1 in
     (ap (λ b. b && list_all test xs) each.0 ∙ rest.0, rest.1)
 
 all_lines : (lines : List (List Point)) → list_any is_empty lines ≡ false → list_all is_in_world (joined lines) ≡ true → AllByRecursion (IsFull FitsPoint) lines
 all_lines [] some e = tt
 all_lines (l ∷ ls) some e =
-    let n = neither (is_empty l) (list_any is_empty ls) some in
+    let n = or_parts (is_empty l) (list_any is_empty ls) some in
     let s = all_split is_in_world l (joined ls) e in
     (full_line l n.0 s.0, all_lines ls n.1 s.1)
 
@@ -123,7 +119,7 @@ joined-append xs ys = flat_map-append (λ x. x) xs ys
 all_areas : (areas : List (List (List Point))) → list_any is_hollow areas ≡ false → list_all is_in_world (joined (joined areas)) ≡ true → AllByRecursion (IsFull (IsFull FitsPoint)) areas
 all_areas [] some e = tt
 all_areas (a ∷ areas) some e =
-    let n = neither (is_hollow a) (list_any is_hollow areas) some in
+    let n = or_parts (is_hollow a) (list_any is_hollow areas) some in
     let s = all_split is_in_world (joined a) (joined (joined areas)) (sym (ap (λ t. list_all is_in_world t) (joined-append a (joined areas))) ∙ e) in
     (full_lines a n.0 s.0, all_areas areas n.1 s.1)
 
@@ -149,7 +145,7 @@ no_fault false true false d e = (refl, refl)
 pub printed_spells : PrintsNumbers → (g : Geometry) → fault_of g ≡ None → SpellsText (printed g) g
 printed_spells numbers g kept =
     let parts = no_fault _ _ _ _ kept in
-    let some = neither (has_empty_list g) (list_any has_one_point (lines_of g)) parts.1 in record {
+    let some = or_parts (has_empty_list g) (list_any has_one_point (lines_of g)) parts.1 in record {
       name = keyword_text (keyword_of g);
       gap = 32 ∷ [];
       body = body_text g;

@@ -78,12 +78,6 @@ list_inside Item text inside front xs tail read l e =
     let tails : inside ≡ at.0 = cc in
     subst (λ t. UpTo Item t xs tail) (sym tails) at.1
 
-pub list_none : {A : Type 0} (Item : List ℕ → A → Type 0) (text front : List ℕ) (xs : List A) (tail : List ℕ) → None ≡ behind 40 text → SpellsList Item front xs → text ≡ front ++ tail → ⊥
-list_none Item text front xs tail read l e =
-    let at = list_at_front Item front xs tail l in
-    let some : None ≡ behind 40 (40 ∷ at.0) = read ∙ ap (behind 40) (e ∙ at.2) in
-    cc
-
 pub first_member : {A : Type 0} (Item : List ℕ → A → Type 0) (rest : List ℕ) (l : List A) (tail : List ℕ) → UpTo Item rest l tail → (y : A) × (other : Bool) × (later : List ℕ) × SpellsMember Item rest y (separator other ∷ later)
 first_member Item rest [] tail u = absurd u
 first_member Item rest (y ∷ []) tail u = (y, false, tail, u)

@@ -1,20 +1,17 @@
 -- Runs of bytes at the front of a text.
 use Rattle.std.proofs.Common.{◌≡◌, ℕ, zero, suc, ◌+◌, ◌<◌, Bool, true, false, ◌&&◌, cond, List, [], ◌∷◌, ◌++◌, length, take, drop, refl, sym, ap, ◌∙◌, arith}
+use Rattle.std.proofs.lemmas.Bool.{and_parts}
 use Rattle.std.specs.List.{list_all, prefix_len}
 use Rattle.std.proofs.lemmas.Bool.Decides.{nat_tests}
 use Rattle.gm_geom.specs.Number.{is_number_byte}
 use Rattle.gm_wkt.specs.Grammar.{is_blank, AreBlanks}
 use Rattle.gm_wkt.specs.Reading.{skip_blanks, Stops, Ends, Starts, begins_blank}
 
-pub both : (a b : Bool) → (a && b) ≡ true → (a ≡ true) × (b ≡ true)
-both true b e = (refl, e)
-both false b e = absurd (cc)
-
 pub run : (test : ℕ → Bool) (bs rest : List ℕ) → list_all test bs ≡ true → Stops test rest → prefix_len test (bs ++ rest) ≡ length bs
 run test [] [] all stops = refl
 run test [] (b ∷ rest) all stops = ap (λ t. cond t (1 + prefix_len test rest) 0) stops
 run test (b ∷ bs) rest all stops =
-    let each : (test b ≡ true) × (list_all test bs ≡ true) = both (test b) (list_all test bs) all in
+    let each : (test b ≡ true) × (list_all test bs ≡ true) = and_parts (test b) (list_all test bs) all in
     ap (λ t. cond t (1 + prefix_len test (bs ++ rest)) 0) each.0 ∙ ap (λ n. 1 + n) (run test bs rest each.1 stops) ∙ omega arith
 
 take_front : (bs rest : List ℕ) → take (length bs) (bs ++ rest) ≡ bs
@@ -64,7 +61,7 @@ blank_ends b e = grind (arith, nat_tests)
 -- blanks and a separator end a number
 pub ends_behind : (bs : List ℕ) (b : ℕ) (rest : List ℕ) → AreBlanks bs → is_number_byte b ≡ false → Ends (bs ++ b ∷ rest)
 ends_behind [] b rest all ends = ends
-ends_behind (c ∷ bs) b rest all ends = blank_ends c (both (is_blank c) (list_all is_blank bs) all).0
+ends_behind (c ∷ bs) b rest all ends = blank_ends c (and_parts (is_blank c) (list_all is_blank bs) all).0
 
 pub number_starts : (b : ℕ) → is_number_byte b ≡ true → is_blank b ≡ false
 number_starts b e = grind (arith, nat_tests)

@@ -79,9 +79,6 @@ fewer Item text [] tail u = absurd u
 fewer Item text (x ∷ []) tail u = omega (arith, member_longer Item text x 41 tail u)
 fewer Item text (x ∷ y ∷ ys) tail u = omega (arith, member_longer Item text x 44 u.0 u.1, fewer Item u.0 (y ∷ ys) tail u.2)
 
-behind_is : (bytes : List ℕ) → behind 40 (40 ∷ bytes) ≡ Some bytes
-behind_is bytes = refl
-
 list_exact : {A : Type 0} (item : Reader A) (Item : List ℕ → A → Type 0) → IsExact item Item → IsExact (list_at item) (SpellsList Item)
 list_exact item Item exact = record {
   found = λ text r e.

@@ -11,19 +11,42 @@ use Rattle.gm_wkt.specs.declared.keyword.Keyword.{Keyword}
 use Rattle.gm_wkt.specs.declared.keyword.Keyword.TheVariants as keyword
 use Rattle.gm_geom.specs.Number.{fixed_of, is_number_byte}
 
+-- the bytes that a geometry is written with, beside letters and numbers
+abbrev pub space : ℕ
+space = 32
+
+abbrev pub tab : ℕ
+tab = 9
+
+abbrev pub opening : ℕ
+opening = 40
+
+abbrev pub closing : ℕ
+closing = 41
+
+abbrev pub comma : ℕ
+comma = 44
+
+-- the end of a line, which no geometry is written with
+abbrev pub line_feed : ℕ
+line_feed = 10
+
 -- space and tab
 abbrev pub is_blank : ℕ → Bool
-is_blank b = b == 32 || b == 9
+is_blank b = b == space || b == tab
 
 abbrev pub AreBlanks : List ℕ → Type 0
 AreBlanks bytes = list_all is_blank bytes ≡ true
 
--- the fixed number that a number stands for. One that is too big stands for the greatest i32, which is
--- outside the world as well.
+-- the fixed number that a number stands for. One that is too big stands for the greatest i32,
+-- which is outside the world as well.
+abbrev pub outside : ℤ
+outside = pos 2147483647
+
 abbrev pub coordinate_from : Result ℤ NumberFault → Option ℤ
 coordinate_from (Ok z) = Some z
 coordinate_from (Err Form) = None
-coordinate_from (Err Big) = Some (pos 2147483647)
+coordinate_from (Err Big) = Some outside
 
 abbrev pub coordinate_of : List ℕ → Option ℤ
 coordinate_of bytes = coordinate_from (fixed_of bytes)
@@ -44,7 +67,9 @@ pub record SpellsPosition (bytes : List ℕ) (p : Point) : Type 0 where
   pub written : bytes ≡ first ++ (gap ++ second)
 
 -- a member with free blanks round it, in front of what follows it
-pub record SpellsMember {A : Type 0} (Item : List ℕ → A → Type 0) (bytes : List ℕ) (x : A) (rest : List ℕ) : Type 0 where
+pub record SpellsMember
+    {A : Type 0} (Item : List ℕ → A → Type 0) (bytes : List ℕ) (x : A) (rest : List ℕ)
+    : Type 0 where
   pub before : List ℕ
   pub item : List ℕ
   pub after : List ℕ
@@ -57,11 +82,13 @@ pub record SpellsMember {A : Type 0} (Item : List ℕ → A → Type 0) (bytes :
 abbrev pub SpellsMembers : {A : Type 0} → (List ℕ → A → Type 0) → List ℕ → List A → Type 0
 SpellsMembers Item bytes [] = ⊥
 SpellsMembers Item bytes (x ∷ []) = SpellsMember Item bytes x []
-SpellsMembers Item bytes (x ∷ y ∷ xs) = (rest : List ℕ) × SpellsMember Item bytes x (44 ∷ rest) × SpellsMembers Item rest (y ∷ xs)
+SpellsMembers Item bytes (x ∷ y ∷ xs) =
+    (rest : List ℕ) × SpellsMember Item bytes x (comma ∷ rest) × SpellsMembers Item rest (y ∷ xs)
 
 -- members in brackets
 abbrev pub SpellsList : {A : Type 0} → (List ℕ → A → Type 0) → List ℕ → List A → Type 0
-SpellsList Item bytes xs = (inside : List ℕ) × SpellsMembers Item inside xs × (bytes ≡ 40 ∷ (inside ++ 41 ∷ []))
+SpellsList Item bytes xs =
+    (inside : List ℕ) × SpellsMembers Item inside xs × (bytes ≡ opening ∷ (inside ++ closing ∷ []))
 
 abbrev pub SpellsLine : List ℕ → List Point → Type 0
 SpellsLine = SpellsList SpellsPosition
@@ -101,12 +128,16 @@ SpellsBody body (geo.ManyPoints points) = SpellsList SpellsLoose body points
 SpellsBody body (geo.ManyLines lines) = SpellsRings body lines
 SpellsBody body (geo.ManyAreas areas) = SpellsList SpellsRings body areas
 
+-- a word in letters of any case
+abbrev pub IsInAnyCase : List ℕ → List ℕ → Type 0
+IsInAnyCase word name = map to_ascii_lowercase name ≡ map to_ascii_lowercase word
+
 -- the keyword in any case, free blanks, and the body
 pub record SpellsText (text : List ℕ) (geometry : Geometry) : Type 0 where
   pub name : List ℕ
   pub gap : List ℕ
   pub body : List ℕ
-  pub named : map to_ascii_lowercase name ≡ map to_ascii_lowercase (keyword_text (keyword_of geometry))
+  pub named : IsInAnyCase (keyword_text (keyword_of geometry)) name
   pub blanks : AreBlanks gap
   pub spells : SpellsBody body geometry
   pub written : text ≡ name ++ (gap ++ body)

@@ -1,20 +1,20 @@
--- The printed form: one blank behind the keyword and behind each comma, and between the two numbers of
--- a point, and none elsewhere.
+-- The printed form: one blank behind the keyword and behind each comma, and between the two numbers
+-- of a point, and none elsewhere.
 use Rattle.std.specs.Prelude.{ℕ, Bool, true, false, List, [], ◌∷◌, ◌++◌, FitsSigned}
 use Rattle.std.specs.Int.{w32}
 use Rattle.gm_geom.specs.declared.place.Point.{Point}
 use Rattle.gm_geom.specs.declared.geometry.Geometry.{Geometry}
 use Rattle.gm_geom.specs.declared.geometry.Geometry.TheVariants as geo
 use Rattle.gm_geom.specs.Number.{fixed_text}
-use Rattle.gm_wkt.specs.Grammar.{keyword_text, keyword_of}
+use Rattle.gm_wkt.specs.Grammar.{space, comma, opening, closing, keyword_text, keyword_of}
 
 abbrev pub position_text : Point → List ℕ
-position_text p = fixed_text p.x ++ (32 ∷ fixed_text p.y)
+position_text p = fixed_text p.x ++ (space ∷ fixed_text p.y)
 
 -- what stands before a member
 abbrev pub separator_text : Bool → List ℕ
 separator_text true = []
-separator_text false = 44 ∷ 32 ∷ []
+separator_text false = comma ∷ space ∷ []
 
 -- members with commas before each but the first
 abbrev pub members_text : {A : Type 0} → (A → List ℕ) → Bool → List A → List ℕ
@@ -22,7 +22,7 @@ members_text item first [] = []
 members_text item first (x ∷ xs) = separator_text first ++ (item x ++ members_text item false xs)
 
 abbrev pub list_text : {A : Type 0} → (A → List ℕ) → List A → List ℕ
-list_text item xs = 40 ∷ (members_text item true xs ++ 41 ∷ [])
+list_text item xs = opening ∷ (members_text item true xs ++ closing ∷ [])
 
 abbrev pub line_text : List Point → List ℕ
 line_text = list_text position_text
@@ -42,7 +42,7 @@ body_text (geo.ManyLines lines) = rings_text lines
 body_text (geo.ManyAreas areas) = list_text rings_text areas
 
 abbrev pub printed : Geometry → List ℕ
-printed g = keyword_text (keyword_of g) ++ (32 ∷ body_text g)
+printed g = keyword_text (keyword_of g) ++ (space ∷ body_text g)
 
 -- coordinates that an i32 holds
 pub record FitsPoint (p : Point) : Type 0 where

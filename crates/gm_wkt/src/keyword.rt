@@ -17,7 +17,8 @@ pub enum Keyword {
 }
 
 fn is_word(name: &[u8], word: &[u8]) -> bool
-    ensures { result ≡ pointwise ◌==◌ (map to_ascii_lowercase name.now) (map to_ascii_lowercase word.now) }
+    ensures { result
+        ≡ pointwise ◌==◌ (map to_ascii_lowercase name.now) (map to_ascii_lowercase word.now) }
 {
     name.eq_ignore_ascii_case(word)
 }

@@ -9,10 +9,8 @@ mod position;
 mod printer;
 mod reader;
 mod spelled;
-#[cfg(test)]
-mod tests;
 
 pub use fault::WktFault;
-pub use laws::{geometry_is_spelled, one_geometry};
+pub use laws::{geometry_is_spelled, one_geometry, printed_is_spelled, spelled_on_a_line};
 pub use printer::print;
 pub use reader::read;

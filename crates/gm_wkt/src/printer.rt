@@ -16,7 +16,8 @@ use std::alloc::Global;
 pub fn print(alloc: Global, geometry: &Geometry) -> Result<Text, NoMemory>
     ensures text { IfOk result (λ text. text ≡ printed geometry.now) }
     // What is printed of a geometry that is kept spells it, so reading gives it again.
-    ensures spells { fault_of geometry.now ≡ None → IfOk result (λ text. SpellsText text geometry.now) }
+    ensures spells { fault_of geometry.now ≡ None
+        → IfOk result (λ text. SpellsText text geometry.now) }
 {
     reads_back();
     has_number_bytes();
@@ -93,7 +94,8 @@ impl<T: Printed> Printed for Items<T> {
 }
 
 fn append_list<T: Printed>(out: &mut String, items: &[T]) -> Result<(), NoMemory>
-    ensures { OnOk result (string_bytes out.new ≡ string_bytes out.old ++ list_text T.text items.now) }
+    ensures { OnOk result (string_bytes out.new
+        ≡ string_bytes out.old ++ list_text T.text items.now) }
 {
     out.push_str("(")?;
     let mut first = true;
@@ -107,7 +109,8 @@ fn append_list<T: Printed>(out: &mut String, items: &[T]) -> Result<(), NoMemory
 }
 
 fn append_separator(out: &mut String, first: bool) -> Result<(), NoMemory>
-    ensures { OnOk result (string_bytes out.new ≡ string_bytes out.old ++ spec.separator_text first) }
+    ensures { OnOk result (string_bytes out.new
+        ≡ string_bytes out.old ++ spec.separator_text first) }
 {
     if !first {
         out.push_str(", ")?;
@@ -125,7 +128,8 @@ fn append_lone(out: &mut String, point: &Point) -> Result<(), NoMemory>
 }
 
 fn append_lones(out: &mut String, points: &[Point]) -> Result<(), NoMemory>
-    ensures { OnOk result (string_bytes out.new ≡ string_bytes out.old ++ list_text lone_text points.now) }
+    ensures { OnOk result (string_bytes out.new
+        ≡ string_bytes out.old ++ list_text lone_text points.now) }
 {
     out.push_str("(")?;
     let mut first = true;

@@ -41,7 +41,8 @@ fn kept(geometry: Geometry) -> Result<Geometry, WktFault>
 
 fn read_text(alloc: Global, text: &[u8]) -> Result<Geometry, Halt>
     ensures found { IfOk result (SpellsText text.now) }
-    ensures only { (g : Geometry) → SpellsText text.now g → MatchResult result (λ h. h ≡ g) OnlyMemory }
+    ensures only { (g : Geometry)
+        → SpellsText text.now g → MatchResult result (λ h. h ≡ g) OnlyMemory }
 {
     let (name, rest) = split_word(text);
     match keyword_of(name) {
@@ -52,7 +53,8 @@ fn read_text(alloc: Global, text: &[u8]) -> Result<Geometry, Halt>
 
 fn read_body(alloc: Global, keyword: Keyword, body: &[u8]) -> Result<Geometry, Halt>
     ensures found { IfOk result (λ g. (grammar.keyword_of g ≡ keyword) × SpellsBody body.now g) }
-    ensures only { (g : Geometry) → grammar.keyword_of g ≡ keyword → SpellsBody body.now g → MatchResult result (λ h. h ≡ g) OnlyMemory }
+    ensures only { (g : Geometry) → grammar.keyword_of g ≡ keyword → SpellsBody body.now g
+        → MatchResult result (λ h. h ≡ g) OnlyMemory }
 {
     match keyword {
         Keyword::Point => Ok(Geometry::Point(read_lone(body)?)),
@@ -67,7 +69,8 @@ fn read_body(alloc: Global, keyword: Keyword, body: &[u8]) -> Result<Geometry, H
 // What the whole text spells.
 fn read_whole<T: Spelled>(alloc: Global, loose: bool, text: &[u8]) -> Result<T, Halt>
     ensures found { IfOk result (T.spells loose text.now) }
-    ensures only { (x : T) → T.spells loose text.now x → MatchResult result (λ y. y ≡ x) OnlyMemory }
+    ensures only { (x : T)
+        → T.spells loose text.now x → MatchResult result (λ y. y ≡ x) OnlyMemory }
 {
     let (value, rest) = T::read(alloc, loose, text)?;
     if !rest.is_empty() {
@@ -79,7 +82,8 @@ fn read_whole<T: Spelled>(alloc: Global, loose: bool, text: &[u8]) -> Result<T, 
 // The position in brackets that the whole text spells.
 fn read_lone(text: &[u8]) -> Result<Point, Halt>
     ensures found { IfOk result (SpellsLone text.now) }
-    ensures only { (x : Point) → SpellsLone text.now x → MatchResult result (λ y. y ≡ x) OnlyMemory }
+    ensures only { (x : Point)
+        → SpellsLone text.now x → MatchResult result (λ y. y ≡ x) OnlyMemory }
 {
     match lone_at(text) {
         None => Err(Halt::Syntax),

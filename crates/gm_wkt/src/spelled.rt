@@ -11,7 +11,8 @@ use gm_base::Items;
 use gm_geom::Point;
 use std::alloc::Global;
 
-/// What a text can spell at its front. In the loose notation the brackets of a position may be left out.
+/// What a text can spell at its front. In the loose notation the brackets of a position may be
+/// left out.
 pub trait Spelled: Drop {
     /// Whether bytes spell a value.
     ghost spells: { Bool → List ℕ → Self → Type 0 };
@@ -19,10 +20,13 @@ pub trait Spelled: Drop {
     /// The value at the front, and what follows it.
     fn read(alloc: Global, loose: bool, text: &[u8]) -> Result<(Self, &[u8]), Halt>
         ensures found { IfOk result (λ r. Takes (spells loose) text.now r.0 r.1.now) }
-        ensures only { (front tail : List ℕ) (x : Self) → spells loose front x → Ends tail → text.now ≡ front ++ tail → MatchResult result (λ r. (r.0 ≡ x) × (r.1.now ≡ tail)) OnlyMemory };
+        ensures only { (front tail : List ℕ) (x : Self)
+            → spells loose front x → Ends tail → text.now ≡ front ++ tail
+            → MatchResult result (λ r. (r.0 ≡ x) × (r.1.now ≡ tail)) OnlyMemory };
 
     /// No spelling begins with a blank.
-    ghost starts: { (loose : Bool) (bytes : List ℕ) (x : Self) → spells loose bytes x → Starts bytes };
+    ghost starts: { (loose : Bool) (bytes : List ℕ) (x : Self)
+        → spells loose bytes x → Starts bytes };
 }
 
 impl Spelled for Point {
@@ -59,7 +63,8 @@ fn read_members<T: Spelled>(
     text: &[u8],
 ) -> Result<(Items<T>, &[u8]), Halt>
     ensures found { IfOk result (λ r. UpTo (T.spells loose) text.now r.0 r.1.now) }
-    ensures only { (xs : List T) (tail : List ℕ) → UpTo (T.spells loose) text.now xs tail → MatchResult result (λ r. (r.0 ≡ xs) × (r.1.now ≡ tail)) OnlyMemory }
+    ensures only { (xs : List T) (tail : List ℕ) → UpTo (T.spells loose) text.now xs tail
+        → MatchResult result (λ r. (r.0 ≡ xs) × (r.1.now ≡ tail)) OnlyMemory }
 {
     let mut rest = text;
     let mut items = Items::new(alloc);
@@ -79,8 +84,11 @@ fn read_member<T: Spelled>(
     loose: bool,
     text: &[u8],
 ) -> Result<(T, bool, &[u8]), Halt>
-    ensures found { IfOk result (λ r. SpellsMember (T.spells loose) text.now r.0 (separator r.1 ∷ r.2.now)) }
-    ensures only { (x : T) (more : Bool) (rest : List ℕ) → SpellsMember (T.spells loose) text.now x (separator more ∷ rest) → MatchResult result (λ r. (r.0 ≡ x) × (r.1 ≡ more) × (r.2.now ≡ rest)) OnlyMemory }
+    ensures found { IfOk result
+        (λ r. SpellsMember (T.spells loose) text.now r.0 (separator r.1 ∷ r.2.now)) }
+    ensures only { (x : T) (more : Bool) (rest : List ℕ)
+        → SpellsMember (T.spells loose) text.now x (separator more ∷ rest)
+        → MatchResult result (λ r. (r.0 ≡ x) × (r.1 ≡ more) × (r.2.now ≡ rest)) OnlyMemory }
 {
     let (item, after) = T::read(alloc, loose, skip_blanks(text))?;
     match separator_at(after) {

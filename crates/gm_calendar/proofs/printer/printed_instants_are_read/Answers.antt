@@ -1,5 +1,7 @@
 use Rattle.gm_calendar.proofs.RoundTrip.{round_trip}
-use Rattle.gm_calendar.proofs.PrintedForm.{begins_with_date, has_instant_bytes}
+use Rattle.gm_calendar.proofs.PrintedForm.{begins_with_date}
+use Rattle.gm_calendar.specs.Spelling.{instant_text}
+use Rattle.gm_calendar.proofs.Spelled.{printed_is_spelled, spelled_bytes}
 use Rattle.gm_calendar.proofs.printer.printed_instants_are_read.Goals as goal
 
 pub returns-clause-reads_back : goal.returns-clause-reads_back
@@ -9,4 +11,7 @@ pub returns-clause-date : goal.returns-clause-date
 returns-clause-date c = begins_with_date
 
 pub returns-clause-bytes : goal.returns-clause-bytes
-returns-clause-bytes c = has_instant_bytes
+returns-clause-bytes c = λ at h. spelled_bytes (instant_text at) at (printed_is_spelled at h)
+
+pub returns-clause-spelled : goal.returns-clause-spelled
+returns-clause-spelled c = printed_is_spelled
