@@ -13,7 +13,7 @@ use Rattle.gm_geom.specs.Geometry.{areas_of}
 use Rattle.gm_geom.specs.Validity.{is_closed}
 use Rattle.gm_geom.specs.Extent.{IsInBox, HoldsAll}
 use Rattle.gm_shapes.specs.declared.segment.Segment.{Segment}
-use Rattle.gm_shapes.specs.Segment.{segment, side_of, box_of, reaches, do_overlap, is_beside, do_meet}
+use Rattle.gm_shapes.specs.Segment.{segment, side_of, box_of, lone_box, reaches, do_overlap, is_beside, do_meet}
 use Rattle.gm_shapes.specs.Edge.{lone_edge}
 use Rattle.gm_shapes.specs.Polygon.{is_on_edge, is_around, is_in_polygon, is_odd, crosses}
 use Rattle.gm_shapes.specs.Meeting.{is_in_any, has_edge_on, has_vertex_in, do_intersect, box_area, box_ring, low_right, high_left}
@@ -153,9 +153,9 @@ point_meets_box p box at =
     (or_left (is_in_any (areas_of (box_area box)) p) false (or_left (is_in_polygon p (box_ring box ∷ [])) false (in_polygon box p at))))
 
 -- a box of one point that overlaps another box has its point there
-pub in_box_by_overlap : (p : Point) (box : Box2) → do_overlap (record { low = p; high = p }) box ≡ true → IsInBox box p
+pub in_box_by_overlap : (p : Point) (box : Box2) → do_overlap (lone_box p) box ≡ true → IsInBox box p
 in_box_by_overlap p box e =
-    let both : (reaches (record { low = p; high = p }) box ≡ true) × (reaches box (record { low = p; high = p }) ≡ true) = and_parts _ _ e in
-    let under : Reaches (record { low = p; high = p }) box = reaches_out (record { low = p; high = p }) box both.0 in
-    let over : Reaches box (record { low = p; high = p }) = reaches_out box (record { low = p; high = p }) both.1 in
+    let both : (reaches (lone_box p) box ≡ true) × (reaches box (lone_box p) ≡ true) = and_parts _ _ e in
+    let under : Reaches (lone_box p) box = reaches_out (lone_box p) box both.0 in
+    let over : Reaches box (lone_box p) = reaches_out box (lone_box p) both.1 in
     record { left = over.across; right = under.across; below = over.along; above = under.along }

@@ -14,12 +14,8 @@ use Rattle.gm_geom.specs.Geometry.{joined, points_of, lone_points_of, lines_of, 
 use Rattle.gm_geom.specs.Extent.{IsInBox, HoldsAll}
 use Rattle.gm_shapes.specs.declared.segment.Segment.{Segment}
 use Rattle.gm_shapes.specs.Segment.{box_of, reaches, do_overlap}
-use Rattle.gm_shapes.specs.Edge.{edges_from, edges_between, edges_between_all, lone_edge, edges_of}
+use Rattle.gm_shapes.specs.Edge.{IsEdgeIn, edges_from, edges_between, edges_between_all, lone_edge, edges_of}
 use Rattle.gm_shapes.proofs.Found.{all_append, all_front, all_back}
-
-pub record IsEdgeIn (box : Box2) (s : Segment) : Type 0 where
-  pub start_in : IsInBox box s.start
-  pub end_in : IsInBox box s.end
 
 abbrev pub HoldsEdges : Box2 → List Segment → Type 0
 HoldsEdges box edges = AllByRecursion (IsEdgeIn box) edges

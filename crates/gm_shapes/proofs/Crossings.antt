@@ -11,11 +11,11 @@ use Rattle.gm_geom.specs.Extent.{IsInBox}
 use Rattle.gm_geom.specs.Validity.{is_closed, is_same, last_after}
 use Rattle.gm_shapes.specs.declared.segment.Segment.{Segment}
 use Rattle.gm_shapes.specs.Segment.{segment, side_of}
-use Rattle.gm_shapes.specs.Edge.{edges_from, edges_between, edges_between_all}
+use Rattle.gm_shapes.specs.Edge.{IsEdgeIn, edges_from, edges_between, edges_between_all}
 use Rattle.gm_shapes.specs.Polygon.{is_level, crosses_up, crosses, is_odd, is_around}
 use Rattle.gm_shapes.proofs.Walks.{xor, odd_count-cons, odd_count-append}
 use Rattle.gm_shapes.proofs.Found.{Passing, found, odd_found, all_map, all_front, all_back}
-use Rattle.gm_shapes.proofs.Boxes.{IsEdgeIn, HoldsEdges}
+use Rattle.gm_shapes.proofs.Boxes.{HoldsEdges}
 use Rattle.gm_shapes.proofs.Sides.{left_of, right_of}
 
 -- the point is higher than y

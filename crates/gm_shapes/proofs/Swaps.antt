@@ -1,12 +1,15 @@
 -- Meeting is symmetric.
 use Rattle.std.proofs.Common.{◌≡◌, Bool, true, false, ◌&&◌, ◌||◌, not, List, [], ◌∷◌, refl, ap, ◌∙◌}
 use Rattle.std.specs.List.{list_any}
+use Rattle.gm_geom.specs.declared.place.Point.{Point}
 use Rattle.gm_geom.specs.declared.place.Box2.{Box2}
 use Rattle.gm_geom.specs.declared.geometry.Geometry.{Geometry}
+use Rattle.gm_geom.specs.Geometry.{points_of, areas_of}
+use Rattle.gm_geom.specs.Validity.{is_empty}
 use Rattle.gm_shapes.specs.declared.segment.Segment.{Segment}
 use Rattle.gm_shapes.specs.Segment.{box_of, reaches, do_overlap, is_beside, do_meet}
 use Rattle.gm_shapes.specs.Edge.{edges_of}
-use Rattle.gm_shapes.specs.Meeting.{has_edge_on, has_vertex_in, do_intersect}
+use Rattle.gm_shapes.specs.Meeting.{is_in_any, has_edge_on, has_vertex_in, do_intersect}
 
 and_swap : (a b : Bool) → (a && b) ≡ (b && a)
 and_swap true true = refl
@@ -19,6 +22,21 @@ or_swap true true = refl
 or_swap true false = refl
 or_swap false true = refl
 or_swap false false = refl
+
+-- what settles an 'or', and what is left of one
+pub by_second : (seen e v : Bool) → seen ≡ v → seen ≡ true → seen ≡ (e || v)
+by_second seen true v is at = at
+by_second seen false v is at = is
+
+pub by_first_two : (seen e v w : Bool) → seen ≡ (e || v) → seen ≡ true → seen ≡ (e || (v || w))
+by_first_two seen true v w is at = at
+by_first_two seen false true w is at = at
+by_first_two seen false false w is at = absurd (cc)
+
+pub by_third : (seen last e v w : Bool) → seen ≡ (e || v) → seen ≡ false → last ≡ w → last ≡ (e || (v || w))
+by_third seen last true v w is at third = absurd (cc)
+by_third seen last false true w is at third = absurd (cc)
+by_third seen last false false w is at third = third
 
 or_across : (a b c d : Bool) → ((a || b) || (c || d)) ≡ ((a || c) || (b || d))
 or_across true b c d = refl
@@ -42,6 +60,14 @@ any_none (x ∷ xs) = any_none xs
 any_swap : {X Y : Type 0} (f : X → Y → Bool) (xs : List X) (ys : List Y) → list_any (λ x. list_any (f x) ys) xs ≡ list_any (λ y. list_any (λ x. f x y) xs) ys
 any_swap f [] ys = any_none ys
 any_swap f (x ∷ xs) ys = ap (λ b. list_any (f x) ys || b) (any_swap f xs ys) ∙ any_or (f x) (λ y. list_any (λ x. f x y) xs) ys
+
+-- no vertex is in a polygon where there is none
+no_area : (one : List Point) (areas : List (List (List Point))) → not (is_empty areas) ≡ false → false ≡ list_any (is_in_any areas) one
+no_area one [] e = any_none one
+no_area one (rings ∷ areas) e = absurd (cc)
+
+pub no_vertex_in : (one two : Geometry) → not (is_empty (areas_of two)) ≡ false → false ≡ has_vertex_in one two
+no_vertex_in one two e = no_area (points_of one) (areas_of two) e
 
 pub overlap_swap : (b c : Box2) → do_overlap b c ≡ do_overlap c b
 overlap_swap b c = and_swap (reaches b c) (reaches c b)

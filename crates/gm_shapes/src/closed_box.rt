@@ -1,79 +1,105 @@
 // A closed box as a polygon of four edges, and what meets it.
-ghost use Rattle.std.specs.Prelude.{◌≡◌, ◌≤ℤ◌, None};
+ghost use Rattle.std.specs.Prelude.{◌≡◌, ◌≤ℤ◌, ◌||◌, true, None};
+ghost use Rattle.gm_geom.specs.declared.place.Point.{Point};
 ghost use Rattle.gm_geom.specs.declared.geometry.Geometry.TheVariants as geo;
 ghost use Rattle.gm_geom.specs.Geometry.{areas_of};
 ghost use Rattle.gm_geom.specs.Validity.{fault_of};
+ghost use Rattle.gm_shapes.specs.Segment as segment;
+ghost use Rattle.gm_shapes.specs.Segment.{lone_box};
 ghost use Rattle.gm_shapes.specs.Edge.{meets_edge_of};
 ghost use Rattle.gm_shapes.specs.Meeting as spec;
-ghost use Rattle.gm_shapes.specs.Meeting.{box_area, box_ring, do_intersect};
+ghost use Rattle.gm_shapes.specs.Meeting.{box_area, box_ring, do_intersect, is_in_any};
 
-use crate::Segment;
-use crate::edge::{Shape, any_between, any_edge};
-use crate::polygon::crosses_oddly;
-use crate::segment::do_overlap;
-use crate::vertex::{Region, any_of, any_vertex};
-use gm_geom::{Box2, Geometry, Point, bounds};
+use crate::bounded::Bounded;
+use crate::edge::{Shape, any_edge, any_edge_between};
+use crate::segment::{Segment, box_of, do_overlap, is_in_box};
+use crate::vertex::{Region, any_point, any_vertex};
+use gm_geom::{Box2, Geometry, Point};
 
-/// Whether a geometry meets a closed box, taken as a polygon of four edges, which may be degenerate.
-/// It is exact, and takes no memory.
+/// A closed box whose low corner is not past its high one.
+#[derive(Clone, Copy, Debug)]
+pub struct ClosedBox {
+    pub area: Box2,
+    ghost across: { area.low.x ≤ℤ area.high.x },
+    ghost along: { area.low.y ≤ℤ area.high.y },
+    ghost points_inside: { (p : Point) → is_in_any (areas_of (box_area area)) p ≡ true →
+        segment.do_overlap (lone_box p) area ≡ true },
+}
+
+impl ClosedBox {
+    pub fn of(area: Box2) -> ClosedBox
+        requires across { area.low.x ≤ℤ area.high.x }
+        requires along { area.low.y ≤ℤ area.high.y }
+        ensures { result.area ≡ area }
+    {
+        ClosedBox { area }
+    }
+
+    /// The corners, the least first and again last.
+    pub fn corners(&self) -> [Point; 5]
+        ensures { result ≡ box_ring self.now.area }
+    {
+        let Box2 { low, high } = self.area;
+        let low_right = Point {
+            x: high.x,
+            y: low.y,
+        };
+        let high_left = Point {
+            x: low.x,
+            y: high.y,
+        };
+        [low, low_right, high, high_left, low]
+    }
+}
+
+impl Shape for ClosedBox {
+    ghost met = { λ it edge. meets_edge_of (box_area it.area) edge };
+
+    fn meets(&self, edge: Segment) -> bool {
+        do_overlap(box_of(edge), self.area) && any_edge_between(&edge, &self.corners())
+    }
+}
+
+impl Region for ClosedBox {
+    ghost held = { λ it p. spec.is_in_any (areas_of (box_area it.area)) p };
+
+    fn holds(&self, p: Point) -> bool {
+        is_in_box(p, self.area)
+    }
+}
+
+/// Whether a geometry meets a closed box, taken as a polygon of four edges, which may be
+/// degenerate. It is exact, and takes no memory.
 pub fn meets_box(geometry: &Geometry, area: Box2) -> bool
     requires kept { fault_of geometry.now ≡ None }
     requires across { area.low.x ≤ℤ area.high.x }
     requires along { area.low.y ≤ℤ area.high.y }
     ensures { result ≡ do_intersect geometry.now (box_area area) }
 {
+    let closed = ClosedBox::of(area);
     if let Geometry::Point(point) = geometry {
-        return is_point_in_box(*point, area);
+        return is_lone_in(*point, &closed);
     }
-    do_overlap(bounds(geometry), area) && has_common_point(geometry, area)
+    let geometry = Bounded::of(geometry);
+    do_overlap(geometry.bounds, area) && have_common_point(&geometry, &closed)
 }
 
-fn is_point_in_box(point: Point, area: Box2) -> bool
-    requires across { area.low.x ≤ℤ area.high.x }
-    requires along { area.low.y ≤ℤ area.high.y }
-    ensures { result ≡ do_intersect (geo.Point point) (box_area area) }
+fn is_lone_in(point: Point, closed: &ClosedBox) -> bool
+    ensures { result ≡ do_intersect (geo.Point point) (box_area closed.now.area) }
 {
-    let place = Box2 {
-        low: point,
-        high: point,
-    };
-    do_overlap(place, area)
+    is_in_box(point, closed.area)
 }
 
-fn has_common_point(geometry: &Geometry, area: Box2) -> bool
-    ensures { result ≡ do_intersect geometry.now (box_area area) }
+fn have_common_point(geometry: &Bounded<'_>, closed: &ClosedBox) -> bool
+    ensures { result ≡ do_intersect geometry.now.geometry.now (box_area closed.now.area) }
 {
-    any_edge(&area, geometry) || any_vertex(&area, geometry) || any_of(geometry, &corners(area))
+    reaches_into(geometry.geometry, closed) || any_point(geometry, &closed.corners())
 }
 
-fn corners(area: Box2) -> [Point; 5]
-    ensures { result ≡ box_ring area }
+// A vertex in the box settles it without a look at the edges.
+fn reaches_into(geometry: &Geometry, closed: &ClosedBox) -> bool
+    ensures { result ≡ spec.has_edge_on geometry.now (box_area closed.now.area) ||
+        spec.has_vertex_in geometry.now (box_area closed.now.area) }
 {
-    let low_right = Point {
-        x: area.high.x,
-        y: area.low.y,
-    };
-    let high_left = Point {
-        x: area.low.x,
-        y: area.high.y,
-    };
-    [area.low, low_right, area.high, high_left, area.low]
-}
-
-impl Shape for Box2 {
-    ghost met = { λ area edge. meets_edge_of (box_area area) edge };
-
-    fn meets(&self, edge: Segment) -> bool {
-        any_between(&edge, &corners(*self))
-    }
-}
-
-impl Region for Box2 {
-    ghost held = { λ area p. spec.is_in_any (areas_of (box_area area)) p };
-
-    fn holds(&self, p: Point) -> bool {
-        let lone = Segment { start: p, end: p };
-        let ring = corners(*self);
-        any_between(&lone, &ring) || crosses_oddly(p, &ring)
-    }
+    any_vertex(closed, geometry) || any_edge(closed, geometry)
 }

@@ -3,14 +3,15 @@ ghost use Rattle.std.specs.Prelude.{◌≡◌, Bool, map};
 ghost use Rattle.std.specs.List.{list_any, flat_map};
 ghost use Rattle.gm_geom.specs.Geometry.{joined};
 ghost use Rattle.gm_shapes.specs.Segment.{do_meet};
-ghost use Rattle.gm_shapes.specs.Edge.{edges_from, edges_between, edges_between_all, lone_edge, edges_of, meets_edge_of};
+ghost use Rattle.gm_shapes.specs.Edge.{edges_from, edges_between, edges_between_all};
+ghost use Rattle.gm_shapes.specs.Edge.{lone_edge, edges_of, meets_edge_of};
 
 use crate::Segment;
 use crate::segment::do_segments_meet;
 use gm_geom::{Areas, Geometry, Point, Points};
 
-// A shape that an edge may meet.
-pub(crate) trait Shape {
+/// A shape that an edge may meet.
+pub trait Shape {
     ghost use Rattle.gm_shapes.specs.declared.segment.Segment.{Segment};
 
     ghost met: { Self → Segment → Bool };
@@ -35,22 +36,22 @@ impl Shape for Geometry {
     }
 }
 
-// Whether the shape meets an edge of the geometry.
-pub(crate) fn any_edge<S: Shape>(shape: &S, geometry: &Geometry) -> bool
+/// Whether the shape meets an edge of the geometry, a lone point counting as an edge.
+pub fn any_edge<S: Shape>(shape: &S, geometry: &Geometry) -> bool
     ensures { result ≡ list_any (S.met shape.now) (edges_of geometry.now) }
 {
     match geometry {
-        Geometry::Point(point) => any_point(shape, &[*point]),
-        Geometry::Line(points) => any_between(shape, points.as_slice()),
-        Geometry::Area(rings) => any_between_all(shape, rings.as_slice()),
-        Geometry::ManyPoints(points) => any_point(shape, points.as_slice()),
-        Geometry::ManyLines(lines) => any_between_all(shape, lines.as_slice()),
+        Geometry::Point(point) => any_lone(shape, &[*point]),
+        Geometry::Line(points) => any_edge_between(shape, points.as_slice()),
+        Geometry::Area(rings) => any_edge_between_all(shape, rings.as_slice()),
+        Geometry::ManyPoints(points) => any_lone(shape, points.as_slice()),
+        Geometry::ManyLines(lines) => any_edge_between_all(shape, lines.as_slice()),
         Geometry::ManyAreas(areas) => any_around(shape, areas),
     }
 }
 
 #[tactic(auto, using(crate::proofs::Walks::found_point))]
-fn any_point<S: Shape>(shape: &S, points: &[Point]) -> bool
+fn any_lone<S: Shape>(shape: &S, points: &[Point]) -> bool
     ensures { result ≡ list_any (S.met shape.now) (map lone_edge points.now) }
 {
     'points: for point in points {
@@ -70,7 +71,7 @@ fn any_around<S: Shape>(shape: &S, areas: &Areas) -> bool
     ensures { result ≡ list_any (S.met shape.now) (edges_between_all (joined areas.now)) }
 {
     'areas: for rings in areas.as_slice() {
-        if any_between_all(shape, rings.as_slice()) {
+        if any_edge_between_all(shape, rings.as_slice()) {
             return true;
         }
     }
@@ -78,18 +79,19 @@ fn any_around<S: Shape>(shape: &S, areas: &Areas) -> bool
 }
 
 #[tactic(auto, using(crate::proofs::Walks::found_line))]
-pub(crate) fn any_between_all<S: Shape>(shape: &S, lines: &[Points]) -> bool
+pub(crate) fn any_edge_between_all<S: Shape>(shape: &S, lines: &[Points]) -> bool
     ensures { result ≡ list_any (S.met shape.now) (edges_between_all lines.now) }
 {
     'lines: for line in lines {
-        if any_between(shape, line.as_slice()) {
+        if any_edge_between(shape, line.as_slice()) {
             return true;
         }
     }
     false
 }
 
-pub(crate) fn any_between<S: Shape>(shape: &S, points: &[Point]) -> bool
+/// Whether the shape meets a segment between neighbours of the points.
+pub fn any_edge_between<S: Shape>(shape: &S, points: &[Point]) -> bool
     ensures { result ≡ list_any (S.met shape.now) (edges_between points.now) }
 {
     match points {

@@ -6,7 +6,7 @@ ghost use Rattle.gm_shapes.specs.Polygon as spec;
 ghost use Rattle.gm_shapes.specs.Polygon.{is_on_edge, is_in_polygon, is_odd, crosses};
 
 use crate::Segment;
-use crate::edge::any_between_all;
+use crate::edge::any_edge_between_all;
 use crate::segment::side;
 use gm_geom::{Point, Points, Rings};
 
@@ -15,7 +15,7 @@ pub fn on_edge(p: Point, rings: &Rings) -> bool
     ensures { result ≡ is_on_edge p rings.now }
 {
     let lone = Segment { start: p, end: p };
-    any_between_all(&lone, rings.as_slice())
+    any_edge_between_all(&lone, rings.as_slice())
 }
 
 /// Whether a point is in a polygon, by the even-odd rule: it lies on an edge, or the ray from it
@@ -57,7 +57,8 @@ fn crosses_oddly_from(p: Point, mut start: Point, points: &[Point]) -> bool
     odd
 }
 
-fn is_crossed(p: Point, edge: Segment) -> bool
+/// Whether the ray from a point towards greater x crosses an edge, whose upper end does not count.
+pub fn is_crossed(p: Point, edge: Segment) -> bool
     ensures { result ≡ crosses p edge }
 {
     if edge.end.y < edge.start.y {

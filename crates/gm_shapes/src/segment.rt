@@ -2,7 +2,7 @@
 ghost use Rattle.std.specs.Prelude.{◌≡◌, ◌≤◌, ◌^◌, ◌-ℤ◌, ◌*ℤ◌, unsigned_abs};
 ghost use Rattle.gm_geom.specs.Extent as extent;
 ghost use Rattle.gm_shapes.specs.Segment as spec;
-ghost use Rattle.gm_shapes.specs.Segment.{segment, side_of, do_meet};
+ghost use Rattle.gm_shapes.specs.Segment.{segment, lone_box, side_of, do_meet};
 
 use gm_geom::{Box2, Point};
 
@@ -27,8 +27,8 @@ pub(crate) fn do_segments_meet(one: Segment, other: Segment) -> bool
     do_overlap(box_of(one), box_of(other)) && !is_beside(one, other) && !is_beside(other, one)
 }
 
-// The least box that holds the segment.
-pub(crate) fn box_of(edge: Segment) -> Box2
+/// The least box that holds the segment.
+pub fn box_of(edge: Segment) -> Box2
     ensures { result ≡ spec.box_of edge }
 {
     Box2 {
@@ -55,10 +55,18 @@ fn high_corner(one: Point, other: Point) -> Point
     }
 }
 
-pub(crate) fn do_overlap(one: Box2, other: Box2) -> bool
+/// Whether two closed boxes have a point in common.
+pub fn do_overlap(one: Box2, other: Box2) -> bool
     ensures { result ≡ spec.do_overlap one other }
 {
     reaches(one, other) && reaches(other, one)
+}
+
+/// Whether a point lies in a closed box.
+pub fn is_in_box(p: Point, area: Box2) -> bool
+    ensures { result ≡ spec.do_overlap (lone_box p) area }
+{
+    do_overlap(Box2 { low: p, high: p }, area)
 }
 
 // Whether the one begins nowhere past the end of the other.

@@ -7,8 +7,8 @@ ghost use Rattle.gm_shapes.specs.Meeting as spec;
 use crate::in_area;
 use gm_geom::{Areas, Geometry, Point, Points};
 
-// A region that a point may lie in.
-pub(crate) trait Region {
+/// A region that a point may lie in.
+pub trait Region {
     ghost use Rattle.gm_geom.specs.declared.place.Point.{Point};
 
     ghost held: { Self → Point → Bool };
@@ -25,21 +25,22 @@ impl Region for Geometry {
     }
 }
 
-// Whether a vertex of the geometry lies in the region.
-pub(crate) fn any_vertex<R: Region>(region: &R, geometry: &Geometry) -> bool
+/// Whether a vertex of the geometry lies in the region.
+pub fn any_vertex<R: Region>(region: &R, geometry: &Geometry) -> bool
     ensures { result ≡ list_any (R.held region.now) (points_of geometry.now) }
 {
     match geometry {
         Geometry::Point(point) => region.holds(*point),
-        Geometry::Line(points) => any_of(region, points.as_slice()),
-        Geometry::Area(rings) => any_of_all(region, rings.as_slice()),
-        Geometry::ManyPoints(points) => any_of(region, points.as_slice()),
-        Geometry::ManyLines(lines) => any_of_all(region, lines.as_slice()),
+        Geometry::Line(points) => any_point(region, points.as_slice()),
+        Geometry::Area(rings) => any_point_of_all(region, rings.as_slice()),
+        Geometry::ManyPoints(points) => any_point(region, points.as_slice()),
+        Geometry::ManyLines(lines) => any_point_of_all(region, lines.as_slice()),
         Geometry::ManyAreas(areas) => any_corner(region, areas),
     }
 }
 
-pub(crate) fn any_of<R: Region>(region: &R, points: &[Point]) -> bool
+/// Whether one of the points lies in the region.
+pub fn any_point<R: Region>(region: &R, points: &[Point]) -> bool
     ensures { result ≡ list_any (R.held region.now) points.now }
 {
     'points: for point in points {
@@ -51,11 +52,11 @@ pub(crate) fn any_of<R: Region>(region: &R, points: &[Point]) -> bool
 }
 
 #[tactic(auto, using(crate::proofs::Walks::found_in))]
-fn any_of_all<R: Region>(region: &R, lines: &[Points]) -> bool
+fn any_point_of_all<R: Region>(region: &R, lines: &[Points]) -> bool
     ensures { result ≡ list_any (R.held region.now) (joined lines.now) }
 {
     'lines: for line in lines {
-        if any_of(region, line.as_slice()) {
+        if any_point(region, line.as_slice()) {
             return true;
         }
     }
@@ -67,14 +68,14 @@ fn any_corner<R: Region>(region: &R, areas: &Areas) -> bool
     ensures { result ≡ list_any (R.held region.now) (joined (joined areas.now)) }
 {
     'areas: for rings in areas.as_slice() {
-        if any_of_all(region, rings.as_slice()) {
+        if any_point_of_all(region, rings.as_slice()) {
             return true;
         }
     }
     false
 }
 
-fn is_in_any(p: Point, geometry: &Geometry) -> bool
+pub(crate) fn is_in_any(p: Point, geometry: &Geometry) -> bool
     ensures { result ≡ spec.is_in_any (areas_of geometry.now) p }
 {
     match geometry {

@@ -1,0 +1,9 @@
+pub mod Heights
+pub mod Bands
+pub mod Lists
+pub mod Numbered
+pub mod Numbers
+pub mod Held
+pub mod Ends
+pub mod Between
+pub mod Meets

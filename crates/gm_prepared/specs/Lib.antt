@@ -1,0 +1,5 @@
+pub mod Edge
+pub mod Band
+pub mod Area
+pub mod Placing
+pub mod Prepared
