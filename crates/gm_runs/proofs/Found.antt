@@ -32,3 +32,24 @@ pub has_from : (xs : List (ℕ × ℕ)) (c i : ℕ) (d : ℕ × ℕ) → i < len
 has_from [] c i d less from to = absurd (omega arith)
 has_from (x ∷ xs) c zero d less from to = inl (from, to)
 has_from (x ∷ xs) c (suc i) d less from to = inr (has_from xs c i d (omega arith) from to)
+
+pub run_of : (xs : List (ℕ × ℕ)) (c : ℕ) (d : ℕ × ℕ) → HasNumber xs c → (i : ℕ) × (i < length xs) × ((get_or xs i d).0 ≤ c) × (c ≤ (get_or xs i d).1)
+run_of [] c d has = absurd has
+run_of (x ∷ xs) c d has =
+    ⊎_elim (λ here. (0, (omega arith), here.0, here.1)) (λ there. let at = run_of xs c d there in (suc at.0, (let less = at.1 in omega arith), at.2, at.3)) has
+
+-- ---- runs rise
+pub run_rises : (least : ℕ) (xs : List (ℕ × ℕ)) (i : ℕ) (d : ℕ × ℕ) → AreRunsFrom least xs → i < length xs → (get_or xs i d).0 ≤ (get_or xs i d).1
+run_rises least [] i d runs less = absurd (omega arith)
+run_rises least (x ∷ xs) zero d runs less = runs.1
+run_rises least (x ∷ xs) (suc i) d runs less = run_rises (x.1 + 2) xs i d runs.2 (omega arith)
+
+low_from : (least : ℕ) (xs : List (ℕ × ℕ)) (i : ℕ) (d : ℕ × ℕ) → AreRunsFrom least xs → i < length xs → least ≤ (get_or xs i d).0
+low_from least [] i d runs less = absurd (omega arith)
+low_from least (x ∷ xs) zero d runs less = runs.0
+low_from least (x ∷ xs) (suc i) d runs less = omega (arith, low_from (x.1 + 2) xs i d runs.2 (omega arith))
+
+pub next_apart : (least : ℕ) (xs : List (ℕ × ℕ)) (i : ℕ) (d : ℕ × ℕ) → AreRunsFrom least xs → suc i < length xs → (get_or xs i d).1 + 1 < (get_or xs (suc i) d).0
+next_apart least [] i d runs less = absurd (omega arith)
+next_apart least (x ∷ xs) zero d runs less = omega (arith, low_from (x.1 + 2) xs 0 d runs.2 (omega arith))
+next_apart least (x ∷ xs) (suc i) d runs less = next_apart (x.1 + 2) xs i d runs.2 (omega arith)

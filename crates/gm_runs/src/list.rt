@@ -6,7 +6,8 @@ ghost use Rattle.gm_runs.specs.List.{inserted, pending};
 use gm_base::NoMemory;
 use std::alloc::Global;
 
-/// Adds the numbers from low to high. Where they begin at or behind the last run, nothing is copied.
+/// Adds the numbers from low to high. Where they begin at or behind the last run, nothing is
+/// copied.
 pub(crate) fn insert(
     alloc: Global,
     runs: &mut Vec<(u64, u64)>,
@@ -67,7 +68,8 @@ fn join_one(
     kept: &mut Option<(u64, u64)>,
     run: (u64, u64),
 ) -> Result<(), NoMemory>
-    ensures { OnOk result ((rest : List (ℕ × ℕ)) → all.new.items ++ pending kept.new rest ≡ all.old.items ++ pending kept.old (run ∷ rest)) }
+    ensures { OnOk result ((rest : List (ℕ × ℕ))
+        → all.new.items ++ pending kept.new rest ≡ all.old.items ++ pending kept.old (run ∷ rest)) }
 {
     match *kept {
         None => all.push(run)?,

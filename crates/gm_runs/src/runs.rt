@@ -34,8 +34,8 @@ impl Runs {
         }
     }
 
-    /// Adds the numbers from low to high. It is one step where they begin at or behind the last run,
-    /// and else one pass over the runs.
+    /// Adds the numbers from low to high. It is one step where they begin at or behind the last
+    /// run, and else one pass over the runs.
     pub fn insert(&mut self, alloc: Global, low: u64, high: u64) -> Result<(), NoMemory>
         requires { low ≤ high }
         ensures ok { OnOk result (AddsBetween low high self.old self.new) }

@@ -5,7 +5,7 @@ use Rattle.std.proofs.lemmas.Bool.{cases_lt, cond-true, cond-false, and_parts, a
 use Rattle.gm_trees.specs.declared.node.Node.{Node}
 use Rattle.gm_trees.specs.declared.window.Window.{Window}
 use Rattle.gm_trees.specs.Tree.{Shape, IsTree}
-use Rattle.gm_runs.specs.Runs.{AreMaximalRuns}
+use Rattle.gm_runs.specs.Runs.{AreRuns, AreMaximalRuns}
 use Rattle.gm_split.specs.RunLaws.{RunLaws}
 use Rattle.gm_split.specs.Windows.{meets}
 use Rattle.gm_split.specs.Levels.{InLevelSet, partial_count, Qualifies, IsStop}
@@ -49,6 +49,10 @@ in_level_gives D s ws (suc k) n c h =
     ⊎_elim (λ own. let parts = and_parts (is_own (s.own n) c) (meets D ws (s.reach n)) own in inl (own_gives (s.own n) c parts.0, parts.1))
     (λ below. let q = any_gives (2 ^ D) (λ i. in_level D s ws k (s.child n i) c) below in inr (q.0, q.1, in_level_gives D s ws k (s.child n q.0) c q.2))
     (or_cases (is_own (s.own n) c && meets D ws (s.reach n)) (any_below (2 ^ D) (λ q. in_level D s ws k (s.child n q) c)) h)
+
+pub explained_are_runs : (D : ℕ) (s : Shape) (ws : List Window) → RunLaws → (target : ℕ) → AreRuns (explained_runs D s ws target)
+unfolding explained_runs level_runs
+explained_are_runs D s ws laws target = (laws.maximal (in_level D s ws (stop_level D s ws target) s.root) (s.last s.root + 1)).apart
 
 module _ (D : ℕ) (s : Shape) (ws : List Window) (Comes : Node → Type 0) (tree : IsTree D s Comes) (laws : RunLaws) where
   bounded : (l c : ℕ) → l ≤ s.depth → InLevelSet D s ws l c → c < s.last s.root + 1

@@ -119,13 +119,13 @@ module _ (D : ℕ) (s : Shape) (ws : List Window) (Comes : Node → Type 0) (tre
       inside_count k (s.child n q) (tree.child_comes n q comes level few) (omega (arith, tree.child_level n q comes level few)) (child_kept n q comes level few inside))
 
   -- ---- what stands of a node
-  inside_piece : (n : Node) → is_inside D ws (s.reach n) ≡ true → piece_of D s ws n ≡ Some (Codes n.first (s.last n))
+  pub inside_piece : (n : Node) → is_inside D ws (s.reach n) ≡ true → piece_of D s ws n ≡ Some (Codes n.first (s.last n))
   inside_piece n t = cond-true (is_inside D ws (s.reach n)) _ _ t
 
-  partly_piece : (n : Node) → is_inside D ws (s.reach n) ≡ false → meets D ws (s.reach n) ≡ true → piece_of D s ws n ≡ Some (Partial n (near_of D ws (s.reach n)))
+  pub partly_piece : (n : Node) → is_inside D ws (s.reach n) ≡ false → meets D ws (s.reach n) ≡ true → piece_of D s ws n ≡ Some (Partial n (near_of D ws (s.reach n)))
   partly_piece n f t = cond-false (is_inside D ws (s.reach n)) _ _ f ∙ cond-true (meets D ws (s.reach n)) _ _ t
 
-  apart_piece : (n : Node) → is_inside D ws (s.reach n) ≡ false → meets D ws (s.reach n) ≡ false → piece_of D s ws n ≡ None
+  pub apart_piece : (n : Node) → is_inside D ws (s.reach n) ≡ false → meets D ws (s.reach n) ≡ false → piece_of D s ws n ≡ None
   apart_piece n f g = cond-false (is_inside D ws (s.reach n)) _ _ f ∙ cond-false (meets D ws (s.reach n)) _ _ g
 
   pub piece_into : (k : ℕ) (n : Node) (c : ℕ) → Comes n → n.level + k ≤ s.depth → InBelow D s ws k n c → InPieces D s ws k (option_to_list (piece_of D s ws n)) c

@@ -11,10 +11,9 @@ use Rattle.gm_runs.specs.Runs.{AreMaximalRuns}
 use Rattle.gm_split.specs.declared.pieces.Piece.{Piece}
 use Rattle.gm_split.specs.declared.pieces.Piece.TheVariants.{Codes, Partial}
 use Rattle.gm_split.specs.Opening.{partials, Covers, IsPieceAt}
-use Rattle.gm_split.specs.Joining.{codes_before, joined}
+use Rattle.gm_split.specs.Front.{codes_before, joined}
 use Rattle.gm_split.proofs.Below.{InPieces, InPiece, pieces_count}
 use Rattle.gm_split.proofs.Decomposed.{Decomposes}
-use Rattle.gm_split.proofs.Stop.{Reached}
 
 -- codes before codes: they touch, or not
 data Meeting (low high first last : ℕ) (ps : List Piece) : Type 0 where
@@ -121,13 +120,3 @@ module _ (D : ℕ) (s : Shape) (ws : List Window) (Comes : Node → Type 0) (l :
       (λ h. (runs.exact c).1 (joined_out D s Comes ws l (Covers s) (λ n a. (n.first ≤ a) × (a ≤ s.last n)) (λ _ _ _ _ x. x) (λ _ _ _ _ x. x) (λ _ _ _ _ x. x) (λ _ _ _ _ x. x) ps c h)),
     );
   }
-
--- ---- the levels reached so far
-pub reached_joined : (D : ℕ) (s : Shape) (ws : List Window) (Comes : Node → Type 0) (target l : ℕ) (ps : List Piece) (rs : List (ℕ × ℕ)) → Reached D s ws Comes target l ps rs → Reached D s ws Comes target l (joined ps) rs
-reached_joined D s ws Comes target l ps rs reached = record {
-  stands = joined_decomposes D s ws Comes l ps reached.stands;
-  runs = joined_runs D s ws Comes l ps reached.stands rs reached.runs;
-  few = reached.few;
-  partial = omega (arith, joined_partials ps, reached.partial);
-  all = reached.all;
-}

@@ -7,7 +7,10 @@ mod Near
 mod Nodes
 mod Parts
 mod Promised
+mod Rising
 mod Standing
 mod Stems
 mod Stop
+mod Taken
 mod Turns
+mod Windowless

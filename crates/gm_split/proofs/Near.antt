@@ -89,13 +89,6 @@ pub record Looked (D : ℕ) (ws : List Window) (r : Node3 × Node3) (left near :
   pub outside : (i : ℕ) (d : Window) → bit_at near i ≡ 1 → is_within D r (get_or ws i d) ≡ false
 
 module _ (D : ℕ) (ws : List Window) (r : Node3 × Node3) where
-  pub looked_start : (seen : ℕ) → HasNear D ws r seen → Looked D ws r seen 0
-  looked_start seen has = record {
-    more = λ i one. inl (has i one);
-    only = λ i one. absurd (let z = bit_at-zero i in omega (arith, one, z));
-    outside = λ i d one. absurd (let z = bit_at-zero i in omega (arith, one, z));
-  }
-
   pub looked_end : (left near : ℕ) → IsNotPast D r.0 r.1 → Looked D ws r left near → ((i : ℕ) → i < length ws → bit_at left i ≡ 1 → ⊥) → Near near ≡ lie_of D ws r
   looked_end left near rising looked none =
       let all : (i : ℕ) → bit_at (near_of D ws r) i ≡ 1 → bit_at near i ≡ 1 = λ i one. ⊎_elim (λ more. absurd (none i (near_inside D r ws i one) more)) (λ found. found) (looked.more i one) in
@@ -136,9 +129,6 @@ module _ (D : ℕ) (ws : List Window) (r : Node3 × Node3) where
       only = looked.only;
       outside = looked.outside;
     }
-
-    set_bit : ℕ
-    set_bit = bit_or near (1 * 2 ^ at % 2 ^ 64)
 
     bit_kept : (i : ℕ) → bit_at near i ≡ 1 → bit_at (bit_or near (1 * 2 ^ at % 2 ^ 64)) i ≡ 1
     bit_kept i one =

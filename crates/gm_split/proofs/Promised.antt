@@ -1,34 +1,25 @@
 -- The stop level, covering and tightness.
 use Rattle.std.proofs.Common.{◌≡◌, inl, inr, ⊎_elim, ℕ, zero, suc, ◌+◌, ◌≤◌, List, length, sym, subst, arith}
-use Rattle.std.specs.Prelude.{true, option_to_list}
+use Rattle.std.specs.Prelude.{true}
 use Rattle.std.proofs.lemmas.Bool.{cases_lt, cases_Bool, cond-true, cond-false, both_ways}
 use Rattle.gm_runs.specs.Runs.{HasNumber, AreMaximalRuns}
 use Rattle.gm_trees.specs.declared.node.Node.{Node}
 use Rattle.gm_trees.specs.declared.window.Window.{Window}
-use Rattle.gm_trees.specs.Tree.{Shape, IsTree, walk}
+use Rattle.gm_trees.specs.Tree.{Shape, HasCode, IsTree, walk}
 use Rattle.gm_split.specs.Windows.{meets}
 use Rattle.gm_split.specs.Levels.{InLevelSet, IsNodeOfCode, Qualifies, IsStop}
-use Rattle.gm_split.specs.Opening.{piece_of}
-use Rattle.gm_split.specs.Explained.{level_runs, qualifies, stop_from, stop_level, explained_runs}
+use Rattle.gm_split.specs.Explained.{qualifies, stop_from, stop_level, explained_runs}
 use Rattle.gm_split.specs.RunLaws.{RunLaws}
 use Rattle.gm_split.proofs.Covering.{cut_covers}
-use Rattle.gm_split.proofs.Decomposed.{decomposes_start, level_into, level_out, level_count}
-use Rattle.gm_split.proofs.Stop.{few_at_start, partial_at_start}
+use Rattle.gm_split.proofs.Below.{inside_out}
+use Rattle.gm_split.proofs.Decomposed.{below_from_path}
+use Rattle.gm_split.proofs.Stop.{first_reached}
 use Rattle.gm_split.proofs.Answered.{level_runs_maximal, qualifies_from, qualifies_gives}
 
 module _ (D : ℕ) (s : Shape) (ws : List Window) (Comes : Node → Type 0) (tree : IsTree D s Comes) (laws : RunLaws) (target : ℕ) (some : 1 ≤ target) where
   -- the root's level qualifies
   first_qualifies : Qualifies D s ws target 0
-  first_qualifies =
-      let ps = option_to_list (piece_of D s ws s.root) in
-      let start = decomposes_start D s ws Comes tree in
-      record {
-        runs = λ rs runs. few_at_start D s ws Comes tree laws target some rs (record {
-          apart = runs.apart;
-          exact = λ c. ((λ h. level_into D s ws Comes tree 0 ps start c ((runs.exact c).0 h)), (λ h. (runs.exact c).1 (level_out D s ws Comes tree 0 ps start c h)));
-        });
-        partial = omega (arith, level_count D s ws Comes tree 0 ps start, partial_at_start D s ws Comes tree laws target some (level_runs D s ws 0));
-      }
+  first_qualifies = (first_reached D s ws Comes tree laws target some).all 0 (omega arith)
 
   -- from a level up to which all qualify, the search ends at the stop
   ends_there : (k l : ℕ) → l + k ≡ s.depth → ((j : ℕ) → j ≤ l → Qualifies D s ws target j) → IsStop D s ws target (stop_from D s ws target k l)
@@ -52,6 +43,12 @@ module _ (D : ℕ) (s : Shape) (ws : List Window) (Comes : Node → Type 0) (tre
   pub explained_maximal : AreMaximalRuns (explained_runs D s ws target) (InLevelSet D s ws (stop_level D s ws target))
   unfolding explained_runs
   explained_maximal = level_runs_maximal D s ws Comes tree laws (stop_level D s ws target) stops.within
+
+  -- a code of the explained runs is one of the tree's
+  pub held : (c : ℕ) → HasNumber (explained_runs D s ws target) c → HasCode s s.root c
+  held c has =
+      let level = (explained_maximal.exact c).0 has in
+      inside_out D s ws Comes tree (stop_level D s ws target) s.root c tree.root_comes (omega (arith, tree.root_level, stops.within)) (below_from_path D s ws (stop_level D s ws target) s.root c level.0 level.1 level.2)
 
   pub covered : (c : ℕ) (path : List ℕ) → IsNodeOfCode D s c path → meets D ws (s.reach (walk s s.root path)) ≡ true → HasNumber (explained_runs D s ws target) c
   covered c path at meet =

@@ -1,6 +1,6 @@
 -- What stands of a node, by the windows near it.
 use Rattle.std.proofs.Common.{◌≡◌, ⊎_elim, ℕ, ◌-◌, ◌^◌, ◌<◌, ◌≤◌, List, length, sym, ap, ◌∙◌, subst, arith}
-use Rattle.std.specs.Prelude.{false, Some, None}
+use Rattle.std.specs.Prelude.{true, false, Some, None}
 use Rattle.std.proofs.lemmas.Bool.{cases_Bool, cond-true, cond-false}
 use Rattle.std.proofs.lemmas.Nat.Bits.{bit_at_ones}
 use Rattle.gm_trees.specs.declared.node.Node.{Node}
@@ -8,7 +8,7 @@ use Rattle.gm_trees.specs.declared.window.Node3.{Node3}
 use Rattle.gm_trees.specs.declared.window.Window.{Window}
 use Rattle.gm_trees.specs.Tree.{Shape, IsTree}
 use Rattle.gm_split.specs.declared.windows.Lie.TheVariants.{Inside, Near}
-use Rattle.gm_split.specs.declared.pieces.Piece.TheVariants.{Partial}
+use Rattle.gm_split.specs.declared.pieces.Piece.TheVariants.{Codes, Partial}
 use Rattle.gm_split.specs.Windows.{meets, is_inside}
 use Rattle.gm_split.specs.Near.{near_of, HasNear, lie_of}
 use Rattle.gm_split.specs.Opening.{piece_of}
@@ -38,3 +38,9 @@ part_stands D s ws n near e some =
     let is = is_near near D ws (s.reach n) e in
     let more : 0 < near_of D ws (s.reach n) = omega (arith, zero_or_more near some, is) in
     ap (λ k. Some (Partial n k)) is ∙ sym (cond-false (is_inside D ws (s.reach n)) _ _ (not_inside near D ws (s.reach n) e) ∙ cond-true (meets D ws (s.reach n)) _ _ (some_near D (s.reach n) ws more))
+
+pub inside_stands : (D : ℕ) (s : Shape) (ws : List Window) (n : Node) → Inside ≡ lie_of D ws (s.reach n) → Some (Codes n.first (s.last n)) ≡ piece_of D s ws n
+inside_stands D s ws n e =
+    let inside : is_inside D ws (s.reach n) ≡ true =
+    ⊎_elim (λ t. t) (λ f. absurd (let g : Inside ≡ Near (near_of D ws (s.reach n)) = e ∙ cond-false (is_inside D ws (s.reach n)) Inside (Near (near_of D ws (s.reach n))) f in cc)) (cases_Bool (is_inside D ws (s.reach n))) in
+    sym (cond-true (is_inside D ws (s.reach n)) _ _ inside)

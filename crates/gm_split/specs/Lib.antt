@@ -1,5 +1,5 @@
 pub mod Explained
-pub mod Joining
+pub mod Front
 pub mod Levels
 pub mod Near
 pub mod Opening

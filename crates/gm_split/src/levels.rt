@@ -1,19 +1,17 @@
 // From the root down, a level at a time.
-ghost use Rattle.std.specs.Prelude.{◌≡◌, ◌<◌, ◌≤◌, ◌+◌, ◌*◌, ◌^◌, ◌⊎◌, length, IfOk, option_to_list};
-ghost use Rattle.gm_runs.specs.Runs.{AreMaximalRuns};
-ghost use Rattle.gm_split.specs.Levels.{InLevelSet, IsStop};
+ghost use Rattle.std.specs.Prelude.{◌≡◌, ◌<◌, ◌≤◌, ◌+◌, ◌*◌, ◌^◌, ◌⊎◌, length, IfOk};
 ghost use Rattle.gm_split.specs.Explained.{explained_runs, stop_level};
-ghost use Rattle.gm_split.specs.Opening.{piece_of};
+ghost use Rattle.gm_split.specs.Front.{HasFirst, IsStopAt};
 ghost use Rattle.gm_split.specs.RunLaws.{RunLaws};
 
 use crate::Split;
-use crate::joining::join;
-use crate::opening::{count_partial, open_all, piece_of, runs_of};
-use crate::pieces::Piece;
+use crate::front::Front;
+use crate::opening::{add, open_all, runs_of};
 use gm_base::NoMemory;
 use gm_runs::{same_numbers_same_runs, tests_have_maximal_runs};
 use gm_trees::{Steps, Tree, Window};
 use std::alloc::Global;
+use std::mem::swap;
 use std::sync::ledger::{Blank, Ledger};
 
 // What lists of runs keep.
@@ -24,68 +22,74 @@ pub(crate) fn run_laws()
     tests_have_maximal_runs();
 }
 
-// The pieces of the root's level.
+// The level of the root.
 fn start<const D: usize, T: Tree<D>>(
     alloc: Global,
     tree: &T,
     windows: &[Window],
-) -> Result<Vec<Piece>, NoMemory>
+) -> Result<Front, NoMemory>
     requires size { T.IsAllowed tree.now }
     requires few { length windows.now ≤ 64 }
-    ensures { IfOk result (λ pieces. pieces.items ≡ option_to_list (piece_of D (T.shape tree.now) windows.now (T.shape tree.now).root)) }
+    ensures { IfOk result (λ front. HasFirst D (T.shape tree.now) windows.now front) }
 {
-    let mut pieces = Vec::new(alloc);
+    let mut front = Front::new(alloc);
     let root = tree.root();
-    if let Some(piece) = piece_of(tree, &root, windows, u64::MAX) {
-        pieces.push(piece)?;
-    }
-    Ok(pieces)
+    add(tree, &root, windows, u64::MAX, &mut front)?;
+    front.close()?;
+    Ok(front)
 }
 
-// The answer by its properties. Each turn opens the partial nodes of a level that qualifies, and stops
-// where the next level does not.
-fn reach_stop<const D: usize, T: Tree<D>, L: Ledger>(
+// Pieces, and their level.
+#[derive(Drop)]
+struct Found {
+    front: Front,
+    level: u32,
+}
+
+// The pieces of the stop level. Each turn opens the partial nodes of a level that qualifies, and
+// stops where the next level does not. Where there are none, no deeper level has other codes.
+fn descend<const D: usize, T: Tree<D>, L: Ledger>(
     alloc: Global,
     tree: &T,
     windows: &[Window],
     target: u32,
     steps: &mut Steps<L>,
-) -> Result<Split, NoMemory>
+) -> Result<Found, NoMemory>
     requires dimensions { (D ≡ 2) ⊎ (D ≡ 3) }
     requires size { T.IsAllowed tree.now }
     requires least { 1 ≤ target }
     requires most { target ≤ 10000 }
     requires windows { length windows.now ≤ 64 }
-    ensures stop { IfOk result (λ split. IsStop D (T.shape tree.now) windows.now target split.level) }
-    ensures runs { IfOk result (λ split. AreMaximalRuns split.runs (InLevelSet D (T.shape tree.now) windows.now split.level)) }
-    ensures few { IfOk result (λ split. length split.runs ≤ target) }
+    ensures stop { IfOk result
+        (λ found. IsStopAt D (T.shape tree.now) windows.now (T.Comes tree.now) target
+        found.level found.front.pieces.items) }
     ensures steps { steps.new ≤ steps.old + (T.shape tree.now).depth * (2 ^ D * (4 * target)) }
 {
     run_laws();
-    let mut pieces = start(alloc, tree, windows)?;
-    let mut runs = runs_of(alloc, tree, &pieces)?;
+    let mut now = start(alloc, tree, windows)?;
+    let mut next = Front::new(alloc);
     let depth = tree.depth();
     let mut level = 0u32;
     while level < depth {
-        let next = open_all(alloc, tree, &pieces, windows, steps, level)?;
-        if count_partial(&next) > 4 * target as usize {
-            return Ok(Split { runs, level });
+        if now.partial == 0 {
+            return Ok(Found {
+                front: now,
+                level: depth,
+            });
         }
-        let more = runs_of(alloc, tree, &next)?;
-        if more.count() > target as usize {
-            return Ok(Split { runs, level });
+        let qualifies = open_all(tree, &now.pieces, windows, target, steps, &mut next, level)?;
+        if !qualifies {
+            return Ok(Found { front: now, level });
         }
-        let joined = join(alloc, &next)?;
-        pieces = joined;
-        runs = more;
+        swap(&mut now, &mut next);
         level += 1;
     }
-    Ok(Split { runs, level })
+    Ok(Found { front: now, level })
 }
 
-/// The codes near the windows, as at most `target` runs: exactly the maximal runs of the level set at
-/// the stop level, and that level. With no window there is no run, and the level is the depth. It takes
-/// a step for each call of `child`, also where it answers `NoMemory`.
+/// The codes near the windows, as at most `target` runs: exactly the maximal runs of the level set
+/// at the stop level, and that level. With no window there is no run, and the level is the depth.
+/// It takes a step for each call of `child`, also where it answers `NoMemory`.
 pub fn split<const D: usize, T: Tree<D>, L: Ledger>(
     alloc: Global,
     tree: &T,
@@ -98,14 +102,20 @@ pub fn split<const D: usize, T: Tree<D>, L: Ledger>(
     requires least { 1 ≤ target }
     requires most { target ≤ 10000 }
     requires windows { length windows.now ≤ 64 }
-    ensures level { IfOk result (λ split. split.level ≡ stop_level D (T.shape tree.now) windows.now target) }
-    ensures runs { IfOk result (λ split. split.runs ≡ explained_runs D (T.shape tree.now) windows.now target) }
+    ensures level { IfOk result
+        (λ split. split.level ≡ stop_level D (T.shape tree.now) windows.now target) }
+    ensures runs { IfOk result
+        (λ split. split.runs ≡ explained_runs D (T.shape tree.now) windows.now target) }
     ensures few { IfOk result (λ split. length split.runs ≤ target) }
     ensures steps { steps.new ≤ steps.old + (T.shape tree.now).depth * (2 ^ D * (4 * target)) }
 {
     run_laws();
-    let answer = reach_stop(alloc, tree, windows, target, steps)?;
-    Ok(answer)
+    let found = descend(alloc, tree, windows, target, steps)?;
+    let runs = runs_of(alloc, tree, &found.front.pieces)?;
+    Ok(Split {
+        runs,
+        level: found.level,
+    })
 }
 
 /// The same in the plane, for a caller that counts no steps.
@@ -123,8 +133,10 @@ pub fn split_in_plane<T: Tree<2>, L: Ledger>(
     requires least { 1 ≤ target }
     requires most { target ≤ 10000 }
     requires windows { length windows.now ≤ 64 }
-    ensures level { IfOk result (λ split. split.level ≡ stop_level 2 (T.shape tree.now) windows.now target) }
-    ensures runs { IfOk result (λ split. split.runs ≡ explained_runs 2 (T.shape tree.now) windows.now target) }
+    ensures level { IfOk result
+        (λ split. split.level ≡ stop_level 2 (T.shape tree.now) windows.now target) }
+    ensures runs { IfOk result
+        (λ split. split.runs ≡ explained_runs 2 (T.shape tree.now) windows.now target) }
     ensures few { IfOk result (λ split. length split.runs ≤ target) }
 {
     let mut steps = Steps::<L>::new(blank);
@@ -146,8 +158,10 @@ pub fn split_in_space<T: Tree<3>, L: Ledger>(
     requires least { 1 ≤ target }
     requires most { target ≤ 10000 }
     requires windows { length windows.now ≤ 64 }
-    ensures level { IfOk result (λ split. split.level ≡ stop_level 3 (T.shape tree.now) windows.now target) }
-    ensures runs { IfOk result (λ split. split.runs ≡ explained_runs 3 (T.shape tree.now) windows.now target) }
+    ensures level { IfOk result
+        (λ split. split.level ≡ stop_level 3 (T.shape tree.now) windows.now target) }
+    ensures runs { IfOk result
+        (λ split. split.runs ≡ explained_runs 3 (T.shape tree.now) windows.now target) }
     ensures few { IfOk result (λ split. length split.runs ≤ target) }
 {
     let mut steps = Steps::<L>::new(blank);

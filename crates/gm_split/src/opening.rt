@@ -1,9 +1,12 @@
 // From the pieces of a level to those of the next.
-ghost use Rattle.std.specs.Prelude.{◌≡◌, ◌≤◌, ◌<◌, ◌+◌, ◌*◌, ◌^◌, ◌⊎◌, ◌++◌, ◌∷◌, [], ℕ, length, option_to_list, OnOk, IfOk, All};
-ghost use Rattle.gm_split.specs.Opening.{piece_of, opened, opened_piece, opened_all, weight, partials, ends, Covers, IsPieceAt, IsComing};
+ghost use Rattle.std.specs.Prelude.{◌≡◌, ◌≤◌, ◌<◌, ◌+◌, ◌*◌, ◌^◌, length, option_to_list, OnOk, IfOk, All};
+ghost use Rattle.gm_split.specs.Opening.{piece_of, own_pieces, opened, opened_piece, weight, partials, ends, Covers, IsPieceAt, IsComing};
+ghost use Rattle.gm_split.specs.Front.{Takes, HasNext};
 ghost use Rattle.gm_split.specs.Near.{HasNear, near_of};
 ghost use Rattle.gm_runs.specs.Runs.{AreMaximalRuns};
+ghost use Rattle.gm_trees.specs.Tree.{Shape};
 
+use crate::front::Front;
 use crate::pieces::Piece;
 use crate::windows::{Lie, lie_among};
 use gm_base::NoMemory;
@@ -12,39 +15,54 @@ use gm_trees::{Node, Steps, Tree, Window};
 use std::alloc::Global;
 use std::sync::ledger::Ledger;
 
-/// What stands of a node: nothing, all its codes, or itself. Only the windows whose bits are set in
-/// `seen` are looked at; the node's reach overlaps no other.
-pub(crate) fn piece_of<const D: usize, T: Tree<D>>(
+/// Takes what stands of a node: nothing, all its codes, or itself. Only the windows whose bits are
+/// set in `seen` are looked at; the node's reach overlaps no other.
+pub(crate) fn add<const D: usize, T: Tree<D>>(
     tree: &T,
     node: &Node,
     windows: &[Window],
     seen: u64,
-) -> Option<Piece>
+    into: &mut Front,
+) -> Result<(), NoMemory>
     requires size { T.IsAllowed tree.now }
     requires comes { T.Comes tree.now node.now }
     requires few { length windows.now ≤ 64 }
     requires seen { HasNear D windows.now ((T.shape tree.now).reach node.now) seen }
-    ensures { result ≡ piece_of D (T.shape tree.now) windows.now node.now }
+    requires runs { into.old.runs < 2 ^ 32 }
+    requires partial { into.old.partial < 2 ^ 32 }
+    ensures { let s = T.shape tree.now in OnOk result
+        (Takes s (option_to_list (piece_of D s windows.now node.now)) into.old into.new) }
 {
     match lie_among::<D>(&tree.reach(node), windows, seen) {
-        Lie::Inside => Some(Piece::Codes(node.first, tree.last(node))),
+        Lie::Inside => into.settle(node.first, tree.last(node)),
         Lie::Near(near) => {
             if near == 0 {
-                return None;
+                return Ok(());
             }
-            Some(Piece::Partial(*node, near))
+            into.keep(*node, near, tree.last(node))
         }
     }
 }
 
-/// Adds what stands of a partial node's own code and of its children.
+// Takes a node's own code, if it has one.
+fn add_own(own: Option<u64>, into: &mut Front) -> Result<(), NoMemory>
+    requires { into.old.runs < 2 ^ 32 }
+    ensures { OnOk result ((s : Shape) → Takes s (own_pieces own) into.old into.new) }
+{
+    match own {
+        None => Ok(()),
+        Some(code) => into.settle(code, code),
+    }
+}
+
+// Takes what stands of a partial node's own code and of its children.
 fn open_node<const D: usize, T: Tree<D>, L: Ledger>(
     tree: &T,
     node: &Node,
     near: u64,
     windows: &[Window],
     steps: &mut Steps<L>,
-    into: &mut Vec<Piece>,
+    into: &mut Front,
 ) -> Result<(), NoMemory>
     requires dimensions { D ≤ 3 }
     requires size { T.IsAllowed tree.now }
@@ -52,25 +70,16 @@ fn open_node<const D: usize, T: Tree<D>, L: Ledger>(
     requires level { node.now.level < (T.shape tree.now).depth }
     requires few { length windows.now ≤ 64 }
     requires near { near ≡ near_of D windows.now ((T.shape tree.now).reach node.now) }
-    ensures ok { OnOk result (into.new.items ≡ into.old.items ++ opened D (T.shape tree.now) windows.now node.now) }
+    requires runs { into.old.runs ≤ 40000 }
+    requires partial { into.old.partial ≤ 40000 }
+    ensures ok { let s = T.shape tree.now in OnOk result
+        (Takes s (opened D s windows.now node.now) into.old into.new) }
     ensures steps { steps.new ≤ steps.old + 2 ^ D }
 {
-    if let Some(code) = tree.own(node) {
-        into.push(Piece::Codes(code, code))?;
-    }
+    add_own(tree.own(node), into)?;
     for q in 0..children(D) {
         let child = tree.child(node, q, steps);
-        add(into, piece_of(tree, &child, windows, near))?;
-    }
-    Ok(())
-}
-
-// Adds a piece, if there is one.
-fn add(into: &mut Vec<Piece>, piece: Option<Piece>) -> Result<(), NoMemory>
-    ensures { OnOk result (into.new.items ≡ into.old.items ++ option_to_list piece) }
-{
-    if let Some(piece) = piece {
-        into.push(piece)?;
+        add(tree, &child, windows, near, into)?;
     }
     Ok(())
 }
@@ -88,7 +97,7 @@ fn open_piece<const D: usize, T: Tree<D>, L: Ledger>(
     piece: &Piece,
     windows: &[Window],
     steps: &mut Steps<L>,
-    into: &mut Vec<Piece>,
+    into: &mut Front,
     level: u32,
 ) -> Result<(), NoMemory>
     requires dimensions { D ≤ 3 }
@@ -96,51 +105,52 @@ fn open_piece<const D: usize, T: Tree<D>, L: Ledger>(
     requires few { length windows.now ≤ 64 }
     requires piece { IsPieceAt D (T.shape tree.now) (T.Comes tree.now) windows.now level piece.now }
     requires level { level < (T.shape tree.now).depth }
-    ensures ok { OnOk result (into.new.items ≡ into.old.items ++ opened_piece D (T.shape tree.now) windows.now piece.now) }
+    requires runs { into.old.runs ≤ 40000 }
+    requires partial { into.old.partial ≤ 40000 }
+    ensures ok { let s = T.shape tree.now in OnOk result
+        (Takes s (opened_piece D s windows.now piece.now) into.old into.new) }
     ensures steps { steps.new ≤ steps.old + 2 ^ D * weight piece.now }
 {
     match *piece {
-        Piece::Codes(..) => into.push(*piece)?,
-        Piece::Partial(node, near) => open_node(tree, &node, near, windows, steps, into)?,
+        Piece::Codes(low, high) => into.settle(low, high),
+        Piece::Partial(node, near) => open_node(tree, &node, near, windows, steps, into),
     }
-    Ok(())
 }
 
-/// The pieces of the next level.
+/// Makes the next level from the pieces of this one, and answers whether it qualifies. Where it
+/// does not, it stops at the first piece by which there are too many runs or partial nodes.
 pub(crate) fn open_all<const D: usize, T: Tree<D>, L: Ledger>(
-    alloc: Global,
     tree: &T,
     pieces: &[Piece],
     windows: &[Window],
+    target: u32,
     steps: &mut Steps<L>,
+    next: &mut Front,
     level: u32,
-) -> Result<Vec<Piece>, NoMemory>
+) -> Result<bool, NoMemory>
     requires dimensions { D ≤ 3 }
     requires size { T.IsAllowed tree.now }
     requires few { length windows.now ≤ 64 }
-    requires pieces { All (IsPieceAt D (T.shape tree.now) (T.Comes tree.now) windows.now level) pieces.now }
+    requires most { target ≤ 10000 }
+    requires pieces { All
+        (IsPieceAt D (T.shape tree.now) (T.Comes tree.now) windows.now level) pieces.now }
     requires level { level < (T.shape tree.now).depth }
-    ensures ok { IfOk result (λ all. all.items ≡ opened_all D (T.shape tree.now) windows.now pieces.now) }
+    ensures next { let s = T.shape tree.now in IfOk result
+        (λ qualifies. HasNext D s windows.now target pieces.now next.new qualifies) }
     ensures steps { steps.new ≤ steps.old + 2 ^ D * partials pieces.now }
 {
-    let mut all = Vec::new(alloc);
+    next.clear();
     for piece in pieces {
-        open_piece(tree, piece, windows, steps, &mut all, level)?;
-    }
-    Ok(all)
-}
-
-/// How many partial nodes there are.
-pub(crate) fn count_partial(pieces: &[Piece]) -> usize
-    ensures { result ≡ partials pieces.now }
-{
-    let mut count = 0;
-    for piece in pieces {
-        if let Piece::Partial(..) = piece {
-            count += 1;
+        open_piece(tree, piece, windows, steps, next, level)?;
+        if next.runs > target as usize {
+            return Ok(false);
+        }
+        if next.partial > 4 * target as usize {
+            return Ok(false);
         }
     }
-    count
+    next.close()?;
+    Ok(true)
 }
 
 /// The codes of these pieces.
@@ -149,7 +159,8 @@ pub(crate) fn runs_of<const D: usize, T: Tree<D>>(
     tree: &T,
     pieces: &[Piece],
 ) -> Result<Runs, NoMemory>
-    requires pieces { All (λ p. (ends (T.shape tree.now) p).0 ≤ (ends (T.shape tree.now) p).1) pieces.now }
+    requires pieces { let s = T.shape tree.now in
+        All (λ p. (ends s p).0 ≤ (ends s p).1) pieces.now }
     requires comes { All (λ p. IsComing (T.Comes tree.now) p) pieces.now }
     ensures { IfOk result (λ runs. AreMaximalRuns runs (Covers (T.shape tree.now) pieces.now)) }
 {

@@ -35,8 +35,8 @@ fn is_within<const D: usize>(reach: &(Node3, Node3), window: &Window) -> bool
     x & (y & t)
 }
 
-/// How a reach lies to the windows, of which it overlaps none but those whose bits are set in `seen`.
-/// No other is looked at.
+/// How a reach lies to the windows, of which it overlaps none but those whose bits are set in
+/// `seen`. No other is looked at.
 pub(crate) fn lie_among<const D: usize>(
     reach: &(Node3, Node3),
     windows: &[Window],

@@ -1,7 +1,7 @@
 -- The laws of the tree of the XZ code.
 use Rattle.std.specs.Prelude.{◌≡◌, ◌<◌, ◌≤◌, ℕ, zero, suc, ◌+◌, ◌-◌, ◌*◌, ◌/◌, ◌%◌, ◌^◌, []}
 use Rattle.std.proofs.Common.{ap, subst, ◌∙◌, sym, refl, arith}
-use Rattle.std.proofs.Math.Nat.{mul-le-mul_left, mul-le-mul_right, pow-le-pow_right}
+use Rattle.std.proofs.Math.Nat.{mul-le-mul_left, mul-le-mul_right, mul-div_cancel, pow-le-pow_right}
 use Rattle.std.proofs.lemmas.Nat.{pow-add}
 use Rattle.std.proofs.lemmas.Grind.{common_steps}
 use Rattle.gm_trees.specs.declared.node.Node.{Node}
@@ -128,23 +128,41 @@ size_fits D k some few low =
     let h : 2 ^ (D * (k + 1)) ≤ 2 ^ 51 = pow-le-pow_right (omega arith) b in
     omega (arith, size_below D k some, h)
 
-pub size_step : (D k size : ℕ) → 1 ≤ D → D ≤ 3 → k < 16 → size ≡ sequence_count D k → 1 + size * 2 ^ D % 2 ^ 64 ≡ sequence_count D (k + 1)
-size_step D k size some few low at =
-    let h = size_fits D (suc k) some few (omega arith) in
-    let e : size * 2 ^ D ≡ 2 ^ D * sequence_count D k = ap (λ n. n * 2 ^ D) at ∙ grind arith in
-    let f : sequence_count D (k + 1) ≡ 1 + 2 ^ D * sequence_count D k = ap (sequence_count D) (let g : k + 1 ≡ suc k = omega arith in g) in
-    omega (arith, h, e, f)
+-- the number of sequences as a geometric sum
+geometric : (D k m : ℕ) → 2 ^ D ≡ m + 1 → sequence_count D k * m + 1 ≡ 2 ^ (D * (k + 1))
+geometric D zero m at =
+    let e : D * (0 + 1) ≡ D = omega arith in
+    let f : 2 ^ (D * (0 + 1)) ≡ 2 ^ D = ap (λ n. 2 ^ n) e in
+    omega (arith, at, f)
+geometric D (suc k) m at =
+    let ih = geometric D k m at in
+    let e : D * (suc k + 1) ≡ D + D * (k + 1) = grind (arith, common_steps) in
+    let f : 2 ^ (D * (suc k + 1)) ≡ 2 ^ D * 2 ^ (D * (k + 1)) = ap (λ n. 2 ^ n) e ∙ pow-add 2 D (D * (k + 1)) in
+    let n = sequence_count D k in
+    let g : 2 ^ D * 2 ^ (D * (k + 1)) ≡ (m + 1) * (n * m + 1) = ap (λ w. w * 2 ^ (D * (k + 1))) at ∙ ap (λ w. (m + 1) * w) (sym ih) in
+    let h : (1 + 2 ^ D * n) * m + 1 ≡ (1 + (m + 1) * n) * m + 1 = ap (λ w. (1 + w * n) * m + 1) at in
+    let x : (1 + (m + 1) * n) * m + 1 ≡ (m + 1) * (n * m + 1) = grind arith in
+    h ∙ x ∙ sym (f ∙ g)
+
+pub size_whole : (D k : ℕ) → 1 ≤ D → D ≤ 3 → k ≤ 16 → (1 * 2 ^ (D * (k + 1)) % 2 ^ 64 - 1) / (1 * 2 ^ D % 2 ^ 64 - 1) ≡ sequence_count D k
+size_whole D k some few low =
+    let least : 2 ^ 1 ≤ 2 ^ D = pow-le-pow_right (omega arith) some in
+    let most : 2 ^ D ≤ 2 ^ 3 = pow-le-pow_right (omega arith) few in
+    let a : D * (k + 1) ≤ 3 * (k + 1) = mul-le-mul_right (k + 1) few in
+    let b : D * (k + 1) ≤ 51 = omega (arith, a) in
+    let h : 2 ^ (D * (k + 1)) ≤ 2 ^ 51 = pow-le-pow_right (omega arith) b in
+    let m = 2 ^ D - 1 in
+    let at : 2 ^ D ≡ m + 1 = omega (arith, least) in
+    let sum : 1 * 2 ^ (D * (k + 1)) % 2 ^ 64 - 1 ≡ sequence_count D k * m = omega (arith, h, geometric D k m at) in
+    let each : 1 * 2 ^ D % 2 ^ 64 - 1 ≡ m = omega (arith, most) in
+    ap (λ n. n / (1 * 2 ^ D % 2 ^ 64 - 1)) sum ∙ ap (λ n. sequence_count D k * m / n) each ∙ mul-div_cancel (sequence_count D k) (omega (arith, least))
+
+pub more_children : (D : ℕ) → 1 ≤ D → D ≤ 3 → 0 < 1 * 2 ^ D % 2 ^ 64 - 1
+more_children D some few =
+    let least : 2 ^ 1 ≤ 2 ^ D = pow-le-pow_right (omega arith) some in
+    let most : 2 ^ D ≤ 2 ^ 3 = pow-le-pow_right (omega arith) few in
+    omega (arith, least, most)
 
 pub xz_child_fits : (D G f l q : ℕ) → 1 ≤ D → D ≤ 3 → G ≤ 16 → l < G → q < 2 ^ D → f + sequence_count D (G - l) ≤ sequence_count D G → f + 1 + q * sequence_count D (G - (l + 1)) < 2 ^ 51
 xz_child_fits D G f l q some few low level inside first =
     omega (arith, size_fits D G some few low, size_split D G l level, part_within q (2 ^ D) (sequence_count D (G - (l + 1))) inside, some_size D (G - (l + 1)), first)
-
-pub end_fits : (i l k G : ℕ) → i < 2 ^ l → l + k ≡ G → G ≤ 16 → (i + 2) * 2 ^ k ≤ 2 ^ 17
-end_fits i l k G inside whole low =
-    let a = part_within i (2 ^ l) (2 ^ k) inside in
-    let y : l + k ≤ 16 = omega arith in
-    let b : 2 ^ (l + k) ≤ 2 ^ 16 = pow-le-pow_right (omega arith) y in
-    let z : k ≤ 16 = omega arith in
-    let c : 2 ^ k ≤ 2 ^ 16 = pow-le-pow_right (omega arith) z in
-    let d : (i + 2) * 2 ^ k ≡ i * 2 ^ k + 2 * 2 ^ k = grind arith in
-    omega (arith, a, b, c, d, pow-add 2 l k)

@@ -2,17 +2,15 @@
 //!
 //! A tree cuts a space of two or three dimensions into cells, each level into halves along each
 //! dimension. A node is a cell, and has one interval of codes. The reach of a node is the box that
-//! its objects can touch. `ZTree` is the tree of the Z code (Morton 1966), whose codes are the cells
-//! of its deepest level. `XzTree` is that of the XZ code (Böhm, Klump and Kriegel 1999), in which each
-//! cell has a code of its own and reaches twice as far.
+//! its objects can touch. `ZTree` is the tree of the Z code (Morton 1966), whose codes are the
+//! cells of its deepest level. `XzTree` is that of the XZ code (Böhm, Klump and Kriegel 1999), in
+//! which each cell has a code of its own and reaches twice as far.
 #![tactic(auto)]
 
 mod cell;
 mod laws;
 mod node;
 mod steps;
-#[cfg(test)]
-mod tests;
 mod tree;
 mod window;
 mod xz;

@@ -5,8 +5,8 @@ ghost use Rattle.gm_base.specs.Counter.{capped_sum};
 use std::marker::Model;
 use std::sync::ledger::{Blank, Book, Ledger, Share};
 
-/// How many steps were taken. A step is a call of `child`. It takes no bytes, `tick` alone changes it,
-/// and code that is generic over its ledger can make none.
+/// How many steps were taken. A step is a call of `child`. It takes no bytes, `tick` alone changes
+/// it, and code that is generic over its ledger can make none.
 #[derive(Drop)]
 pub struct Steps<L: Ledger> {
     book: Book<L>,

@@ -8,8 +8,8 @@ use crate::cell::{enlarged_end, low_end};
 use crate::{Node, Node3, Steps, Tree};
 use std::sync::ledger::Ledger;
 
-/// The tree of the XZ code (Böhm, Klump and Kriegel 1999) of D dimensions with sequences of at most G
-/// numbers. Each node has a code of its own, its first, and its children split the others. A node
+/// The tree of the XZ code (Böhm, Klump and Kriegel 1999) of D dimensions with sequences of at most
+/// G numbers. Each node has a code of its own, its first, and its children split the others. A node
 /// reaches twice as far as its cell, up to the end of the space. D is 2 or 3, and G from 1 to 16.
 #[derive(Clone, Copy, Debug, PartialEq, Eq)]
 pub struct XzTree<const D: usize, const G: u32>;
@@ -74,18 +74,16 @@ impl<const D: usize, const G: u32> Tree<D> for XzTree<D, G> {
     }
 }
 
-// How many sequences of at most this many numbers there are.
+// How many sequences of at most this many numbers there are: a geometric sum.
 fn size(dimensions: usize, levels: u32) -> u64
     requires some { 1 ≤ dimensions }
     requires few { dimensions ≤ 3 }
     requires low { levels ≤ 16 }
     ensures { result ≡ sequence_count dimensions levels }
 {
-    let mut size = 1u64;
-    for level in 0..levels {
-        size = 1 + (size << dimensions);
-    }
-    size
+    let whole = 1u64 << (dimensions as u32 * (levels + 1));
+    let children = 1u64 << dimensions;
+    (whole - 1) / (children - 1)
 }
 
 // The last of so many codes.
@@ -107,7 +105,8 @@ fn xz_child_first(dimensions: usize, levels: u32, first: u64, level: u32, q: u32
     requires low { levels ≤ 16 }
     requires level { level < levels }
     requires q { q < 2 ^ dimensions }
-    requires first { first + sequence_count dimensions (levels - level) ≤ sequence_count dimensions levels }
+    requires first { first + sequence_count dimensions (levels - level)
+        ≤ sequence_count dimensions levels }
     ensures { result ≡ first + 1 + q * sequence_count dimensions (levels - (level + 1)) }
 {
     first + 1 + u64::from(q) * size(dimensions, levels - (level + 1))

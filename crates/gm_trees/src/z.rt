@@ -7,9 +7,9 @@ use crate::cell::{high_end, low_end};
 use crate::{Node, Node3, Steps, Tree};
 use std::sync::ledger::Ledger;
 
-/// The tree of the Z code (Morton 1966) of D dimensions with B bits each. Its codes are the cells of
-/// the deepest level, the children split the codes of a node, and a node reaches its cell. D is 2 or 3,
-/// and D * B at most 63.
+/// The tree of the Z code (Morton 1966) of D dimensions with B bits each. Its codes are the cells
+/// of the deepest level, the children split the codes of a node, and a node reaches its cell. D is
+/// 2 or 3, and D * B at most 63.
 #[derive(Clone, Copy, Debug, PartialEq, Eq)]
 pub struct ZTree<const D: usize, const B: u32>;
 

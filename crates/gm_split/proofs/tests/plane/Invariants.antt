@@ -1,4 +1,0 @@
-use Rattle.gm_split.proofs.tests.plane.Given as goal
-
-abbrev pub ghosts-split_in_plane : goal.ghosts-split_in_plane
-ghosts-split_in_plane g a = record { name = a.blank.name; parts = a.blank.parts }

@@ -1,4 +1,0 @@
-use Rattle.gm_split.proofs.tests.space.Given as goal
-
-abbrev pub ghosts-split_in_space : goal.ghosts-split_in_space
-ghosts-split_in_space g a = record { name = a.blank.name; parts = a.blank.parts }
