@@ -1,0 +1,29 @@
+-- The default date, found.
+use Rattle.std.proofs.Common.{◌≡◌, ℕ, Bool, List, Option, Some, None, sym, ◌∙◌, ap}
+use Rattle.std.specs.Prelude.{codes, option_and_then}
+use Rattle.gm_types.specs.Dates.{IsDateNamed, IsDateSetting}
+use Rattle.gm_types.specs.FeatureType.{is_met, is_date_name, is_date_kind}
+use Rattle.gm_types.specs.Specification.{Specification, kind_at, place_of_name, default_date_of, date_named, setting_of}
+
+pub date_standard : (t : Specification) (first : Option ℕ) → None ≡ setting_of t (codes "geomesa.index.dtg")
+    → first ≡ date_named t None → IsDateSetting t (Some first)
+unfolding default_date_of
+date_standard t first none is =
+    (ap (is_met (is_date_name t)) (sym none), is ∙ ap (date_named t) none)
+
+pub date_given : (t : Specification) (name : List ℕ) (place : ℕ) → Some name ≡ setting_of t (codes "geomesa.index.dtg")
+    → IsDateNamed t name (Some place) → IsDateSetting t (Some (Some place))
+unfolding default_date_of
+date_given t name place given named =
+    (ap (is_met (is_date_name t)) (sym given) ∙ named.0, named.1 ∙ ap (date_named t) given)
+
+pub date_unknown : (t : Specification) (name : List ℕ) → Some name ≡ setting_of t (codes "geomesa.index.dtg")
+    → IsDateNamed t name None → IsDateSetting t None
+date_unknown t name given none = ap (is_met (is_date_name t)) (sym given) ∙ none
+
+pub named_none : (t : Specification) (name : List ℕ) → None ≡ place_of_name t name → IsDateNamed t name None
+named_none t name e = ap (λ o. is_date_kind (option_and_then (kind_at t) o)) (sym e)
+
+pub named_at : (t : Specification) (name : List ℕ) (place : ℕ) (b : Bool) → Some place ≡ place_of_name t name → b ≡ is_date_kind (kind_at t place)
+    → b ≡ is_date_name t name
+named_at t name place b e h = h ∙ ap (λ o. is_date_kind (option_and_then (kind_at t) o)) e

@@ -1,0 +1,12 @@
+use Rattle.std.proofs.Common.{◌≡◌, length}
+use Rattle.gm_types.specs.Parts.{parts_of}
+use Rattle.gm_types.specs.Reading.{read_all, option_of}
+use Rattle.gm_types.proofs.ReadParts.{appended}
+use Rattle.gm_types.proofs.attribute_reader.read_options.Given as goal
+
+abbrev pub invariant-parts : goal.invariant-parts
+invariant-parts l =
+    read_all (option_of l.kind) (parts_of 58 l.text) ≡ appended l.options (read_all (option_of l.kind) (parts_of 58 l.rest))
+
+abbrev pub decreases-parts : goal.decreases-parts
+decreases-parts l = length l.rest

@@ -1,0 +1,12 @@
+use Rattle.std.proofs.Common.{◌≡◌, length}
+use Rattle.gm_types.specs.Parts.{parts_of}
+use Rattle.gm_types.specs.Reading.{read_all, datum_of}
+use Rattle.gm_types.proofs.ReadParts.{appended}
+use Rattle.gm_types.proofs.data_reader.read_data.Given as goal
+
+abbrev pub invariant-parts : goal.invariant-parts
+invariant-parts l =
+    read_all datum_of (parts_of 44 l.text) ≡ appended l.list (read_all datum_of (parts_of 44 l.rest))
+
+abbrev pub decreases-parts : goal.decreases-parts
+decreases-parts l = length l.rest

@@ -1,0 +1,48 @@
+// The names of indexes.
+ghost use Rattle.std.specs.Prelude.{◌≡◌, ◌≤◌, length};
+ghost use Rattle.gm_types.specs.Index as spec;
+
+use crate::dates::place_named;
+use crate::words::is_word;
+use crate::{Attribute, IndexKind};
+
+// The index of an attribute whose name stands behind `attr:`.
+fn attribute_index(attributes: &[Attribute], name: &[u8]) -> Option<IndexKind>
+    requires { length attributes.now ≤ 64 }
+    ensures { result ≡ spec.attribute_meant attributes.now name.now }
+{
+    if name.len() < 5 {
+        return None;
+    }
+    let (front, rest) = name.split_at(5);
+    if !is_word(front, b"attr:") {
+        return None;
+    }
+    match place_named(attributes, rest) {
+        Some(place) => Some(IndexKind::Attr(place as u16)),
+        None => None,
+    }
+}
+
+/// The index that a name means, where the type has it.
+pub(crate) fn index_meant(attributes: &[Attribute], name: &[u8]) -> Option<IndexKind>
+    requires { length attributes.now ≤ 64 }
+    ensures { result ≡ spec.index_meant attributes.now name.now }
+{
+    if is_word(name, b"id") {
+        return Some(IndexKind::Id);
+    }
+    if is_word(name, b"z2") {
+        return Some(IndexKind::Z2);
+    }
+    if is_word(name, b"z3") {
+        return Some(IndexKind::Z3);
+    }
+    if is_word(name, b"xz2") {
+        return Some(IndexKind::Xz2);
+    }
+    if is_word(name, b"xz3") {
+        return Some(IndexKind::Xz3);
+    }
+    attribute_index(attributes, name)
+}
