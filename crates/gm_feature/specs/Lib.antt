@@ -1,0 +1,5 @@
+pub mod Shape
+pub mod Value
+pub mod Feature
+pub mod Spelling
+pub mod Reading

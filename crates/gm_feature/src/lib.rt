@@ -1,0 +1,24 @@
+//! Features of a type: their values, whether they fit the type, and their bytes.
+#![tactic(auto)]
+
+mod feature;
+mod fit;
+mod halt;
+mod laws;
+mod lists;
+mod number;
+mod reader;
+mod shape;
+mod value;
+mod writer;
+
+pub use feature::{Feature, FeatureList};
+pub use fit::{TEXT_LIMIT, dates_fit, fits, has_text_form, value_fits};
+pub use laws::{
+    bytes_tell_features_apart, fitting_features_have_few_bytes, fitting_features_have_values,
+    spellings_are_read,
+};
+pub use reader::from_bytes;
+pub use shape::{copy_geometry, has_shape};
+pub use value::{Value, Values};
+pub use writer::to_bytes;
