@@ -1,0 +1,4 @@
+pub mod Members
+pub mod RowLaws
+pub mod Changes
+pub mod Distinct

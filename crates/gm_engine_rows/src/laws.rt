@@ -1,0 +1,63 @@
+// Laws of the rows of a state, for proofs. Each is the contract of a function that does nothing but
+// call those that it rests on.
+ghost use Rattle.std.specs.Prelude.{◌≡◌, ◌++◌, ℕ, List, Option, Some, None, true, map, length, slice_get, IsTrue};
+ghost use Rattle.std.specs.Option.{ForSome};
+ghost use Rattle.gm_table.specs.declared.row.Row.{Row};
+ghost use Rattle.gm_table.specs.Batch.{are_distinct, applied_at};
+ghost use Rattle.gm_table.specs.Row.{key_of as key_of_row};
+ghost use Rattle.gm_table.specs.Sorted.{IsRising, at_key};
+ghost use Rattle.gm_types.specs.FeatureType.{IsType};
+ghost use Rattle.gm_types.specs.Specification.{Specification};
+ghost use Rattle.gm_types.specs.Words.{are_distinct as are_apart};
+ghost use Rattle.gm_feature.specs.declared.feature.Feature.{Feature};
+ghost use Rattle.gm_engine_rows.specs.State.{State, IsState, IsHeld, types_of, type_at, feature_at, changed_in, with_type};
+ghost use Rattle.gm_engine_rows.specs.Rows.{rows_of, IsRow};
+ghost use Rattle.gm_engine_rows.specs.Change.{removes_of, puts_of};
+
+use gm_keys::keys_tell_features_apart;
+use gm_table::rows_of_a_map;
+
+/// The rows of a state rise, and what stands at a key is the bytes of the feature whose key it is.
+pub fn rows_are_of_features()
+    ensures rising { (s : State) → IsRising (rows_of s) }
+    ensures found { (s : State) (key bytes : List ℕ) → at_key key (rows_of s) ≡ Some bytes → IsRow s key bytes }
+    ensures all { (s : State) (key bytes : List ℕ) → IsState s → IsRow s key bytes
+        → at_key key (rows_of s) ≡ Some bytes }
+{
+    keys_tell_features_apart();
+    rows_of_a_map();
+}
+
+/// Where an identifier of a type is bound to another feature, or for the first time, or unbound, the
+/// change turns the rows of the state into those of the state after it.
+pub fn rows_follow_a_change()
+    ensures { (s : State) (n : ℕ) (t : Specification) (id : List ℕ) (new : Option Feature) → IsState s
+        → type_at n s ≡ Some t → ForSome new (IsHeld t id) → (key : List ℕ)
+        → applied_at key (removes_of t (feature_at n id s) new) (puts_of t new) (at_key key (rows_of s))
+        ≡ at_key key (rows_of (changed_in n id new s)) }
+{
+    keys_tell_features_apart();
+    rows_of_a_map();
+}
+
+/// After such a change the state is one, and of the same types; the identifier of that type has the new
+/// feature or none, and every other has what it had.
+pub fn changes_keep_the_state()
+    ensures state { (s : State) (n : ℕ) (t : Specification) (id : List ℕ) (new : Option Feature) → IsState s
+        → type_at n s ≡ Some t → ForSome new (IsHeld t id) → IsState (changed_in n id new s) }
+    ensures types { (s : State) (n : ℕ) (id : List ℕ) (new : Option Feature)
+        → types_of (changed_in n id new s) ≡ types_of s }
+    ensures here { (s : State) (n : ℕ) (t : Specification) (id : List ℕ) (new : Option Feature)
+        → type_at n s ≡ Some t → feature_at n id (changed_in n id new s) ≡ new }
+    ensures elsewhere { (s : State) (m n : ℕ) (i id : List ℕ) (new : Option Feature)
+        → ((m ≡ n) × (i ≡ id) → ⊥) → feature_at m i (changed_in n id new s) ≡ feature_at m i s }
+{}
+
+/// A further type has no features and adds no rows.
+pub fn a_new_type_has_no_rows()
+    ensures rows { (s : State) (t : Specification) → rows_of (with_type t s) ≡ rows_of s }
+    ensures state { (s : State) (t : Specification) → IsState s → IsType t → t.number ≡ length s
+        → are_apart (map (λ (u : Specification). u.name) (types_of (with_type t s))) ≡ true → IsState (with_type t s) }
+{
+    rows_of_a_map();
+}

@@ -1,0 +1,9 @@
+pub mod Apart
+pub mod Between
+pub mod Cells
+pub mod KeyLists
+pub mod KeyParts
+pub mod Layouts
+pub mod Places
+pub mod Missing
+pub mod KnownValues

@@ -1,0 +1,4 @@
+pub mod Cell
+pub mod Place
+pub mod Key
+pub mod Layout

@@ -1,0 +1,2 @@
+pub mod Lexicode
+pub mod After
