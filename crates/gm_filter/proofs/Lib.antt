@@ -1,0 +1,6 @@
+pub mod Characters
+pub mod Fronts
+pub mod Steps
+pub mod Trees
+pub mod Trials
+pub mod Truths

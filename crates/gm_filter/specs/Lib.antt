@@ -1,0 +1,9 @@
+pub mod Comparison
+pub mod Like
+pub mod Run
+pub mod Suits
+pub mod Tested
+pub mod Tree
+pub mod Trial
+pub mod Truth
+pub mod Wildcards
