@@ -4,15 +4,12 @@
 
 use gm_base::{Tally, Text};
 use gm_outside::{NoGate, SteadyFolder, StreamSink, StreamSource};
-use gm_program::{Status, run};
+use gm_program::{Status, Store, run};
 use gm_table::MapTable;
 use std::alloc::Global;
 use std::env::Env;
 use std::process::ExitCode;
 use std::{env, io};
-
-#[cfg(test)]
-mod tests;
 
 fn main(rt: HostRuntime) -> ExitCode {
     let status = match words_of(&rt, rt.alloc()) {
@@ -41,7 +38,7 @@ fn words_of(rt: &(impl Env + AllocGlobal), alloc: Global) -> Result<Vec<Text>, S
 fn serve<R: Input + Print>(rt: &R, alloc: Global, words: &[Text]) -> Status {
     let mut source = StreamSource::new(rt.reader());
     let mut sink = StreamSink::new(io::writer(rt));
-    let mut table = MapTable::new(alloc);
+    let mut store = Store::new(alloc, MapTable::new(alloc));
     let mut tally = Tally::new();
     let status = run(
         alloc,
@@ -50,7 +47,7 @@ fn serve<R: Input + Print>(rt: &R, alloc: Global, words: &[Text]) -> Status {
         &mut sink,
         &mut SteadyFolder,
         &NoGate,
-        &mut table,
+        &mut store,
         &mut tally,
     );
     let _rows = tally.close();

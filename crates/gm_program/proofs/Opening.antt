@@ -1,9 +1,10 @@
--- The state of a run at its start.
-use Rattle.std.proofs.Common.{◌≡◌, [], List, ℕ, sym, ◌∙◌}
+-- The state of a store that has nothing.
+use Rattle.std.proofs.Common.{◌≡◌, [], sym, ◌∙◌}
 use Rattle.gm_table.specs.Sorted.{Rows}
-use Rattle.gm_program.specs.Serving.{Keeps}
+use Rattle.gm_program.specs.State.{Types}
+use Rattle.gm_program.specs.Store.{Holds}
 use Rattle.gm_program.proofs.StateLemmas.{rows_of-none, is_state-none}
 
--- no type and no row keep the state without types
-pub keeps_nothing : (types : List (List ℕ)) (table : Rows) → types ≡ [] → table ≡ [] → Keeps [] types table
-keeps_nothing types table no_type no_row = record { state = is_state-none; names = no_type; rows = no_row ∙ sym rows_of-none }
+-- no type and no row are those of the state without types
+pub holds_nothing : (types : Types) (rows : Rows) → types ≡ [] → rows ≡ [] → Holds [] types rows
+holds_nothing types rows no_type no_row = record { state = is_state-none; same_types = no_type; same_rows = no_row ∙ sym rows_of-none }

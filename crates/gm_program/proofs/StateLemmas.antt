@@ -1,5 +1,5 @@
 -- The state without types.
-use Rattle.std.proofs.Common.{◌≡◌, [], List, ℕ, sym, ◌∙◌, arith}
+use Rattle.std.proofs.Common.{◌≡◌, [], List, ℕ, refl, sym, ◌∙◌, arith}
 use Rattle.std.specs.Prelude.{Option, Some, None}
 use Rattle.std.specs.Ordering.{nat_cmp}
 use Rattle.std.specs.Cmp.Lexicographic.{slice_cmp}
@@ -23,5 +23,7 @@ none_is_none point is = cc
 pub is_state-none : IsState []
 is_state-none = record {
   few = omega arith;
+  named = refl;
+  apart = refl;
   fit = λ n id point at. absurd (none_is_none point (sym (nothing_there id) ∙ at));
 }

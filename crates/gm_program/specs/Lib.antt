@@ -6,6 +6,7 @@ pub mod State
 pub mod Feature
 pub mod Keys
 pub mod Rows
+pub mod Store
 pub mod Answer
 pub mod Changing
 pub mod Finding

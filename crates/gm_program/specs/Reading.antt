@@ -1,5 +1,5 @@
 -- Which command a line is, for the types with these names, or why it is refused.
-use Rattle.std.specs.Prelude.{ℕ, ◌&&◌, nat_lt, if◌then◌else◌, List, [], ◌∷◌, length, Option, Some, None, Result, Ok, Err, codes, ◌≡◌, ◌<◌}
+use Rattle.std.specs.Prelude.{ℕ, ◌&&◌, nat_lt, true, false, if◌then◌else◌, List, [], ◌∷◌, length, Option, Some, None, Result, Ok, Err, codes, ◌≡◌, ◌<◌}
 use Rattle.std.specs.List.{position_from}
 use Rattle.gm_base.specs.declared.code.Code.{Code}
 use Rattle.gm_base.specs.declared.code.Code.TheVariants.{E04, E05, E06, E10}
@@ -15,7 +15,8 @@ use Rattle.gm_program.specs.declared.reading.LineFault.{LineFault}
 use Rattle.gm_program.specs.declared.reading.LineFault.TheVariants as fault
 use Rattle.gm_program.specs.Command.{before_byte, after_byte, is_same, is_name, is_plain_id}
 use Rattle.gm_program.specs.Numbers.{box_in}
-use Rattle.gm_program.specs.State.{Fits, IsBoxInWorld}
+use Rattle.gm_table.specs.Batch.{has_key}
+use Rattle.gm_program.specs.State.{Types, Fits, IsBoxInWorld}
 
 -- the number of the type with this name
 abbrev pub number_of : List (List ℕ) → List ℕ → Option ℕ
@@ -83,8 +84,8 @@ ReadsPoint said (Ok point) = said ≡ Some point
 ReadsPoint said (Err (fault.Refused code)) = (said ≡ None) × (code ≡ E10)
 ReadsPoint said (Err fault.NoMemory) = Unit {0}
 
--- a command on one of so many types, or a further type where there is room for one, about features and boxes that are in the world
-abbrev pub Suits : ℕ → Command → Type 0
-Suits count (Create name) = count < 100
-Suits count (Put n feature) = (n < count) × Fits feature.id feature.point
-Suits count (Query n box) = (n < count) × IsBoxInWorld box
+-- a command on one of these types, or a further type of another name where there is room for one, about features and boxes that are in the world
+abbrev pub Suits : Types → Command → Type 0
+Suits types (Create name) = (length types < 100) × (is_name name ≡ true) × (has_key name types ≡ false)
+Suits types (Put n feature) = (n < length types) × Fits feature.id feature.point
+Suits types (Query n box) = (n < length types) × IsBoxInWorld box

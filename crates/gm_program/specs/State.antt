@@ -2,11 +2,14 @@
 use Rattle.std.specs.Prelude.{ℕ, zero, suc, ◌≡◌, ◌≤◌, ◌≤ℤ◌, true, List, [], ◌∷◌, ◌++◌, map, length, Some}
 use Rattle.std.specs.Ordering.{nat_cmp}
 use Rattle.std.specs.Cmp.Lexicographic.{slice_cmp}
+use Rattle.std.specs.List.{list_all}
 use Rattle.std.specs.FinMap as features
 use Rattle.gm_base.specs.Identifier.{is_identifier}
 use Rattle.gm_geom.specs.declared.place.Point.{Point}
 use Rattle.gm_geom.specs.declared.place.Box2.{Box2}
 use Rattle.gm_geom.specs.Validity.{is_in_world}
+use Rattle.gm_table.specs.Batch.{are_distinct}
+use Rattle.gm_program.specs.Command.{is_name}
 
 -- features by their identifiers
 abbrev pub Features : Type 0
@@ -21,8 +24,12 @@ pub record Collection : Type 0 where
 abbrev pub State : Type 0
 State = List Collection
 
-abbrev pub names_of : State → List (List ℕ)
-names_of s = map (λ c. c.name) s
+-- the types as a store lists them: their names
+abbrev pub Types : Type 0
+Types = List (List ℕ)
+
+abbrev pub types_of : State → Types
+types_of s = map (λ c. c.name) s
 
 -- the features of the type with this number
 abbrev pub features_of : ℕ → State → Features
@@ -52,7 +59,9 @@ pub record IsBoxInWorld (box : Box2) : Type 0 where
   pub wide : box.low.x ≤ℤ box.high.x
   pub tall : box.low.y ≤ℤ box.high.y
 
--- at most 100 types, whose features fit
+-- at most 100 types, with distinct names of the form of a name, whose features fit
 pub record IsState (s : State) : Type 0 where
   pub few : length s ≤ 100
+  pub named : list_all is_name (types_of s) ≡ true
+  pub apart : are_distinct (types_of s) ≡ true
   pub fit : (n : ℕ) (id : List ℕ) (point : Point) → features.get (features_of n s) id ≡ Some point → Fits id point

@@ -1,5 +1,7 @@
 -- The status of a run.
 use Rattle.std.specs.Prelude.{ℕ, Result, Ok, Err, ⊤}
+use Rattle.gm_outside.specs.declared.sink.SinkRefusal.{SinkRefusal}
+use Rattle.gm_outside.specs.declared.sink.SinkRefusal.TheVariants as refusal
 use Rattle.gm_program.specs.declared.stop.Stop.{Stop}
 use Rattle.gm_program.specs.declared.stop.Stop.TheVariants as stop
 use Rattle.gm_program.specs.declared.status.Status.{Status}
@@ -21,6 +23,11 @@ of_stop stop.NoMemory = status.NoMemory
 of_stop stop.ReadFault = status.ReadFault
 of_stop stop.WriteFault = status.WriteFault
 of_stop stop.TooLong = status.TooLong
+
+-- the stop of a run whose sink refused so
+abbrev pub stop_from : SinkRefusal → Stop
+stop_from refusal.Failed = stop.WriteFault
+stop_from refusal.NoMemory = stop.NoMemory
 
 -- the status of a run whose serving ended so
 abbrev pub status_from : Result ⊤ Stop → Status

@@ -5,12 +5,14 @@ ghost use Rattle.gm_geom.specs.declared.place.Point.{Point as AnyPoint};
 ghost use Rattle.gm_geom.specs.Validity.{is_in_world};
 ghost use Rattle.gm_base.specs.Counter.{capped_sum};
 ghost use Rattle.gm_program.specs.declared.command.Command.{Command};
-ghost use Rattle.gm_program.specs.State.{State, Fits, IsBoxInWorld};
+ghost use Rattle.gm_program.specs.declared.setting.Setting.{Setting as AnySetting};
+ghost use Rattle.gm_program.specs.State.{State, Types, Fits, IsBoxInWorld};
 ghost use Rattle.gm_program.specs.Feature.{HasFeature, feature_bytes};
 ghost use Rattle.gm_program.specs.Keys.{id_key as id_key_of};
 ghost use Rattle.gm_program.specs.Reading.{Suits};
 ghost use Rattle.gm_program.specs.Step.{step};
-ghost use Rattle.gm_program.specs.Serving.{Keeps, HasState, Executes};
+ghost use Rattle.gm_program.specs.Store.{Holds, HasState};
+ghost use Rattle.gm_program.specs.Serving.{Executes};
 ghost use Rattle.gm_program.specs.Answer.{ranges_of};
 ghost use Rattle.gm_program.specs.Changing.{removes_of, puts_of};
 ghost use Rattle.gm_program.specs.Finding.{takes_row, rows_read};
@@ -21,6 +23,8 @@ use crate::feature::{Feature, from_bytes, to_bytes};
 use crate::found::Found;
 use crate::key::{SHARDS, code, codes_of_a_box, id_key, z2_end, z2_key};
 use crate::reply::Reply;
+use crate::setting::Setting;
+use crate::store::Store;
 use gm_base::{Bytes, Counter, Items, NoMemory, Text};
 use gm_geom::{Box2, Point};
 use gm_table::{Batch, Row, Sorted, rows_of_a_map};
@@ -29,20 +33,20 @@ use std::alloc::Global;
 /// Does a command as the plain map of features says.
 pub(crate) fn execute<B: Sorted>(
     alloc: Global,
+    _setting: Setting,
     command: Command,
-    types: &mut Items<Text>,
-    table: &mut B,
+    store: &mut Store<B>,
     tally: &mut B::Tally,
 ) -> Result<Reply, NoMemory>
-    requires kept { HasState types.old (B.rows table.old) }
-    requires suits { Suits (length types.old) command }
-    ensures { (s : State) → Keeps s types.old (B.rows table.old) → IfOk result (λ reply.
-        Executes (step s command) reply types.new (B.rows table.new) (B.Tally.number tally.old) (B.Tally.number tally.new)) }
+    requires kept { HasState store.old.types (B.rows store.old.table) }
+    requires suits { Suits store.old.types command }
+    ensures { (s : State) → Holds s store.old.types (B.rows store.old.table) → IfOk result (λ reply.
+        Executes (step _setting s command) reply store.new.types (B.rows store.new.table) (B.Tally.number tally.old) (B.Tally.number tally.new)) }
 {
     match command {
-        Command::Create(name) => create(alloc, name, types),
-        Command::Put(number, feature) => put(alloc, number, feature, table, tally),
-        Command::Query(number, wanted) => query(alloc, number, wanted, table, tally),
+        Command::Create(name) => create(alloc, name, &mut store.types),
+        Command::Put(number, feature) => put(alloc, number, feature, &mut store.table, tally),
+        Command::Query(number, wanted) => query(alloc, number, wanted, &store.table, tally),
     }
 }
 
@@ -63,10 +67,10 @@ fn put<B: Sorted>(
     table: &mut B,
     tally: &mut B::Tally,
 ) -> Result<Reply, NoMemory>
-    requires kept { (types : List (List ℕ)) × HasState types (B.rows table.old) }
+    requires kept { (types : Types) × HasState types (B.rows table.old) }
     requires fits { Fits feature.id feature.point }
-    ensures { (s : State) (types : List (List ℕ)) → Keeps s types (B.rows table.old) → number < length types → IfOk result (λ reply.
-        Executes (step s (Command.Put number feature)) reply types (B.rows table.new) (B.Tally.number tally.old) (B.Tally.number tally.new)) }
+    ensures { (setting : AnySetting) (s : State) (types : Types) → Holds s types (B.rows table.old) → number < length types → IfOk result (λ reply.
+        Executes (step setting s (Command.Put number feature)) reply types (B.rows table.new) (B.Tally.number tally.old) (B.Tally.number tally.new)) }
 {
     rows_of_a_map();
     let key = id_key(alloc, number, feature.id.as_bytes())?;
@@ -133,10 +137,10 @@ fn query<B: Sorted>(
     table: &B,
     tally: &mut B::Tally,
 ) -> Result<Reply, NoMemory>
-    requires kept { (types : List (List ℕ)) × HasState types (B.rows table.now) }
+    requires kept { (types : Types) × HasState types (B.rows table.now) }
     requires in_world { IsBoxInWorld wanted }
-    ensures { (s : State) (types : List (List ℕ)) → Keeps s types (B.rows table.now) → IfOk result (λ reply.
-        Executes (step s (Command.Query number wanted)) reply types (B.rows table.now) (B.Tally.number tally.old) (B.Tally.number tally.new)) }
+    ensures { (setting : AnySetting) (s : State) (types : Types) → Holds s types (B.rows table.now) → IfOk result (λ reply.
+        Executes (step setting s (Command.Query number wanted)) reply types (B.rows table.now) (B.Tally.number tally.old) (B.Tally.number tally.new)) }
 {
     let mut part = tally.part();
     let mut found = Found::new(alloc, wanted);

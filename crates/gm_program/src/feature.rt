@@ -31,21 +31,22 @@ pub(crate) fn to_bytes(alloc: Global, id: &[u8], point: Point) -> Result<Bytes, 
 {
     let mut head = [0u8; 2];
     BigEndian::write_u16(&mut head, id.len() as u16);
-    let mut bytes = Bytes::from_vec(Vec::with_capacity(alloc, id.len() + 12)?);
-    bytes.append(&head)?;
-    bytes.append(id)?;
-    bytes.append(&[VALUE, POINT_KIND])?;
+    let mut bytes = Vec::with_capacity(alloc, id.len() + 12)?;
+    bytes.extend_from_slice(&head)?;
+    bytes.extend_from_slice(id)?;
+    bytes.extend_from_slice(&[VALUE, POINT_KIND])?;
     put_signed(&mut bytes, point.x)?;
     put_signed(&mut bytes, point.y)?;
-    Ok(bytes)
+    Ok(Bytes::from_vec(bytes))
 }
 
-fn put_signed(bytes: &mut Bytes, number: i32) -> Result<(), NoMemory>
-    ensures { OnOk result (bytes.new ≡ bytes.old ++ signed_bytes number) }
+fn put_signed(bytes: &mut Vec<u8>, number: i32) -> Result<(), NoMemory>
+    ensures { OnOk result (bytes.new.items ≡ bytes.old.items ++ signed_bytes number) }
 {
     let mut four = [0u8; 4];
     BigEndian::write_i32(&mut four, number);
-    bytes.append(&four)
+    bytes.extend_from_slice(&four)?;
+    Ok(())
 }
 
 /// The identifier and the point of the feature that has these bytes.

@@ -8,12 +8,16 @@ mod found;
 mod key;
 mod numbers;
 mod parts;
+mod pending;
 mod reading;
 mod reply;
 mod script;
 mod serve;
+mod setting;
 mod status;
 mod stop;
+mod store;
 
 pub use script::run;
 pub use status::Status;
+pub use store::Store;

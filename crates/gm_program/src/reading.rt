@@ -28,7 +28,7 @@ pub(crate) enum LineFault {
 pub(crate) fn read_line(alloc: Global, types: &[Text], line: &[u8]) -> Result<Command, LineFault>
     requires { length types.now ≤ 100 }
     ensures reads { Reads (reading types.now line.now) result }
-    ensures suits { IfOk result (Suits (length types.now)) }
+    ensures suits { IfOk result (Suits types.now) }
 {
     if LINE_LIMIT < line.len() {
         return Err(LineFault::Refused(Code::E04));
@@ -39,7 +39,7 @@ pub(crate) fn read_line(alloc: Global, types: &[Text], line: &[u8]) -> Result<Co
 fn read_words(alloc: Global, types: &[Text], line: &[u8]) -> Result<Command, LineFault>
     requires { length types.now ≤ 100 }
     ensures reads { Reads (reading_of types.now line.now) result }
-    ensures suits { IfOk result (Suits (length types.now)) }
+    ensures suits { IfOk result (Suits types.now) }
 {
     let (verb, after_verb) = split_at_byte(b' ', line);
     let (name, rest) = split_at_byte(b' ', after_verb);
@@ -55,7 +55,7 @@ fn read_command(
 ) -> Result<Command, LineFault>
     requires { length types.now ≤ 100 }
     ensures reads { Reads (command_of types.now verb.now name.now rest.now) result }
-    ensures suits { IfOk result (Suits (length types.now)) }
+    ensures suits { IfOk result (Suits types.now) }
 {
     if verb == b"create".as_slice() {
         return read_create(alloc, types, name, rest);
@@ -77,7 +77,7 @@ fn read_create(
     spec: &[u8],
 ) -> Result<Command, LineFault>
     ensures reads { Reads (create_of types.now name.now spec.now) result }
-    ensures suits { IfOk result (Suits (length types.now)) }
+    ensures suits { IfOk result (Suits types.now) }
 {
     if !has_name_form(name) {
         return Err(LineFault::Refused(Code::E04));
@@ -101,7 +101,7 @@ fn read_create(
 fn read_put(alloc: Global, types: &[Text], name: &[u8], row: &[u8]) -> Result<Command, LineFault>
     requires { length types.now ≤ 100 }
     ensures reads { Reads (put_of types.now name.now row.now) result }
-    ensures suits { IfOk result (Suits (length types.now)) }
+    ensures suits { IfOk result (Suits types.now) }
 {
     let (id, place) = split_at_byte(b',', row);
     if !has_name_form(name) || !has_plain_id_form(id) || id.len() == row.len() {
@@ -138,7 +138,7 @@ fn read_point(alloc: Global, text: &[u8]) -> Result<Point, LineFault>
 fn read_query(types: &[Text], name: &[u8], filter: &[u8]) -> Result<Command, LineFault>
     requires { length types.now ≤ 100 }
     ensures reads { Reads (query_of types.now name.now filter.now) result }
-    ensures suits { IfOk result (Suits (length types.now)) }
+    ensures suits { IfOk result (Suits types.now) }
 {
     if !has_name_form(name) {
         return Err(LineFault::Refused(Code::E04));

@@ -1,19 +1,21 @@
 // Lines served one after the other.
-ghost use Rattle.std.specs.Prelude.{◌≡◌, ◌≤◌, ◌++◌, [], ◌∷◌, ℕ, List, Some, OnOk, OnErr, IfOk, IsErrOf, length};
+ghost use Rattle.std.specs.Prelude.{◌≡◌, ◌≤◌, ◌++◌, [], ◌∷◌, ℕ, List, Some, None, OnOk, OnErr, IfOk, IsErrOf, length};
 ghost use Rattle.std.specs.Option.{ForSome};
-ghost use Rattle.gm_base.specs.Counter.{capped_sum};
-ghost use Rattle.gm_outside.specs.Outside.{Rose};
-ghost use Rattle.gm_program.specs.Machine.{Machine, line_turn, said, replies, outcome_of};
-ghost use Rattle.gm_program.specs.State.{State, names_of};
+ghost use Rattle.gm_outside.specs.Failed.{Rose};
+ghost use Rattle.gm_program.specs.Machine.{Machine, line_turn, end_turn, said, replies, outcome_of};
+ghost use Rattle.gm_program.specs.State.{State};
+ghost use Rattle.gm_program.specs.Store.{HasState, Holds};
 ghost use Rattle.gm_program.specs.Reading.{reading};
 ghost use Rattle.gm_program.specs.Lines.{complete_from, partial_from, cut};
-ghost use Rattle.gm_program.specs.Serving.{Serves, WritesPart, Keeps, HasState, Executes};
+ghost use Rattle.gm_program.specs.Serving.{moment, Keeps, HasMachine, Executes, Takes, Writes, WritesPart, Goes, Serves};
 
 use crate::execute::execute;
+use crate::pending::Pending;
 use crate::reading::{LINE_LIMIT, LineFault, read_line};
 use crate::reply::{Reply, print_reply};
-use crate::stop::Stop;
-use gm_base::{Bytes, Items, NoMemory, Text};
+use crate::setting::Setting;
+use crate::store::Store;
+use gm_base::NoMemory;
 use gm_outside::{Sink, SinkRefusal};
 use gm_table::Sorted;
 use memchr::memchr;
@@ -22,84 +24,141 @@ use std::alloc::Global;
 /// As many bytes of a line as show whether it is too long.
 const HELD_LIMIT: usize = LINE_LIMIT + 1;
 
-/// Writes all of these bytes.
-pub(crate) fn write_all<K: Sink>(alloc: Global, sink: &mut K, bytes: &[u8]) -> Result<(), Stop>
-    ensures ok { OnOk result (ForSome (K.written sink.old) (λ before. K.written sink.new ≡ Some (before ++ bytes.now))) }
+/// Writes all of these bytes, as one piece as far as the sink takes it so.
+fn write_all<K: Sink>(alloc: Global, sink: &mut K, bytes: &[u8]) -> Result<(), SinkRefusal>
+    ensures ok { OnOk result (Writes bytes.now (K.written sink.old) (K.written sink.new)) }
     ensures err { OnErr result (WritesPart bytes.now (K.written sink.old) (K.written sink.new)) }
-    ensures cause { IsErrOf result Stop.WriteFault → Rose (K.faults sink.old) (K.faults sink.new) }
-    ensures no_read { IsErrOf result Stop.ReadFault → ⊥ }
-    ensures no_limit { IsErrOf result Stop.TooLong → ⊥ }
+    ensures cause { IsErrOf result SinkRefusal.Failed → Rose (K.faults sink.old) (K.faults sink.new) }
     ensures later { K.faults sink.old ≤ K.faults sink.new }
 {
     let mut at = 0;
     while at < bytes.len() {
         match sink.write(alloc, &bytes[at..]) {
             Ok(n) => at += n,
-            Err(SinkRefusal::Failed) => return Err(Stop::WriteFault),
-            Err(SinkRefusal::NoMemory) => return Err(Stop::NoMemory),
+            Err(refusal) => return Err(refusal),
         }
     }
     Ok(())
 }
 
-/// Serves a line.
-pub(crate) fn serve_line<K: Sink, B: Sorted>(
-    alloc: Global,
-    line: &[u8],
-    sink: &mut K,
-    types: &mut Items<Text>,
-    table: &mut B,
-    tally: &mut B::Tally,
-) -> Result<(), Stop>
-    requires kept { HasState types.old (B.rows table.old) }
-    ensures ok { OnOk result ((m : Machine) → Keeps m.state types.old (B.rows table.old) →
-        Serves m (line.now ∷ []) types.new (B.rows table.new) (B.Tally.number tally.old) (B.Tally.number tally.new) (K.written sink.old) (K.written sink.new)) }
-    ensures err { OnErr result ((m : Machine) → Keeps m.state types.old (B.rows table.old) →
-        WritesPart (replies m (line.now ∷ [])) (K.written sink.old) (K.written sink.new)) }
-    ensures kept { OnOk result (HasState types.new (B.rows table.new)) }
-    ensures cause { IsErrOf result Stop.WriteFault → Rose (K.faults sink.old) (K.faults sink.new) }
-    ensures no_read { IsErrOf result Stop.ReadFault → ⊥ }
-    ensures no_limit { IsErrOf result Stop.TooLong → ⊥ }
+// Writes a reply, where there is one.
+fn say<K: Sink>(alloc: Global, reply: Option<Reply>, sink: &mut K) -> Result<(), SinkRefusal>
+    ensures ok { OnOk result (Writes (said reply) (K.written sink.old) (K.written sink.new)) }
+    ensures err { OnErr result (WritesPart (said reply) (K.written sink.old) (K.written sink.new)) }
+    ensures cause { IsErrOf result SinkRefusal.Failed → Rose (K.faults sink.old) (K.faults sink.new) }
     ensures later { K.faults sink.old ≤ K.faults sink.new }
 {
-    let reply = match answer(alloc, line, types, table, tally) {
-        Ok(reply) => reply,
-        Err(NoMemory) => return Err(Stop::NoMemory),
+    let Some(reply) = reply else {
+        return Ok(());
     };
-    write_all(alloc, sink, reply.as_slice())
+    match print_reply(alloc, &reply) {
+        Ok(bytes) => write_all(alloc, sink, bytes.as_slice()),
+        Err(NoMemory) => Err(SinkRefusal::NoMemory),
+    }
 }
 
-// The bytes of the reply to a line.
-fn answer<B: Sorted>(
+/// Takes the turn of a line, and writes its reply.
+pub(crate) fn serve_line<K: Sink, B: Sorted>(
     alloc: Global,
+    setting: Setting,
     line: &[u8],
-    types: &mut Items<Text>,
-    table: &mut B,
+    sink: &mut K,
+    store: &mut Store<B>,
+    pending: &mut Pending,
     tally: &mut B::Tally,
-) -> Result<Bytes, NoMemory>
-    requires kept { HasState types.old (B.rows table.old) }
-    ensures { (m : Machine) → Keeps m.state types.old (B.rows table.old) → IfOk result (λ reply.
-        (reply ≡ said (line_turn m line.now).reply)
-        × Keeps (line_turn m line.now).machine.state types.new (B.rows table.new)
-        × (B.Tally.number tally.new ≡ capped_sum (B.Tally.number tally.old) (line_turn m line.now).examined)) }
+) -> Result<(), SinkRefusal>
+    requires kept { HasMachine store.old.types (B.rows store.old.table) pending.old }
+    ensures ok { OnOk result ((m : Machine) → Keeps m store.old.types (B.rows store.old.table) pending.old → Serves setting m (line.now ∷ [])
+        (moment store.old.types (B.rows store.old.table) pending.old (B.Tally.number tally.old) (K.written sink.old))
+        (moment store.new.types (B.rows store.new.table) pending.new (B.Tally.number tally.new) (K.written sink.new))) }
+    ensures err { OnErr result ((m : Machine) → Keeps m store.old.types (B.rows store.old.table) pending.old →
+        WritesPart (replies setting m (line.now ∷ [])) (K.written sink.old) (K.written sink.new)) }
+    ensures kept { OnOk result (HasMachine store.new.types (B.rows store.new.table) pending.new) }
+    ensures cause { IsErrOf result SinkRefusal.Failed → Rose (K.faults sink.old) (K.faults sink.new) }
+    ensures later { K.faults sink.old ≤ K.faults sink.new }
 {
-    let reply = reply_to(alloc, line, types, table, tally)?;
-    print_reply(alloc, &reply)
+    match take_line(alloc, setting, line, store, pending, tally) {
+        Ok(reply) => say(alloc, reply, sink),
+        Err(NoMemory) => Err(SinkRefusal::NoMemory),
+    }
 }
 
+/// Takes the turn of the end, and writes what it says.
+pub(crate) fn serve_end<K: Sink, B: Sorted>(
+    alloc: Global,
+    setting: Setting,
+    sink: &mut K,
+    store: &mut Store<B>,
+    pending: &mut Pending,
+    tally: &mut B::Tally,
+) -> Result<(), SinkRefusal>
+    requires kept { HasMachine store.old.types (B.rows store.old.table) pending.old }
+    ensures ok { OnOk result ((m : Machine) → Keeps m store.old.types (B.rows store.old.table) pending.old →
+        Goes (end_turn setting m).machine (said (end_turn setting m).reply) (end_turn setting m).examined
+        (moment store.old.types (B.rows store.old.table) pending.old (B.Tally.number tally.old) (K.written sink.old))
+        (moment store.new.types (B.rows store.new.table) pending.new (B.Tally.number tally.new) (K.written sink.new))) }
+    ensures err { OnErr result ((m : Machine) → Keeps m store.old.types (B.rows store.old.table) pending.old →
+        WritesPart (said (end_turn setting m).reply) (K.written sink.old) (K.written sink.new)) }
+    ensures kept { OnOk result (HasMachine store.new.types (B.rows store.new.table) pending.new) }
+    ensures cause { IsErrOf result SinkRefusal.Failed → Rose (K.faults sink.old) (K.faults sink.new) }
+    ensures later { K.faults sink.old ≤ K.faults sink.new }
+{
+    match take_end(setting, store, pending, tally) {
+        Ok(reply) => say(alloc, reply, sink),
+        Err(NoMemory) => Err(SinkRefusal::NoMemory),
+    }
+}
+
+// What a line makes of the store and of what is pending.
+fn take_line<B: Sorted>(
+    alloc: Global,
+    setting: Setting,
+    line: &[u8],
+    store: &mut Store<B>,
+    pending: &mut Pending,
+    tally: &mut B::Tally,
+) -> Result<Option<Reply>, NoMemory>
+    requires kept { HasMachine store.old.types (B.rows store.old.table) pending.old }
+    ensures { (m : Machine) → Keeps m store.old.types (B.rows store.old.table) pending.old → IfOk result (λ reply.
+        Takes (line_turn setting m line.now) reply store.new.types (B.rows store.new.table) pending.new (B.Tally.number tally.old) (B.Tally.number tally.new)) }
+{
+    match *pending {
+        Pending::Nothing => {
+            let reply = reply_to(alloc, setting, line, store, tally)?;
+            Ok(Some(reply))
+        }
+    }
+}
+
+// What the end of the script makes of them.
+fn take_end<B: Sorted>(
+    _setting: Setting,
+    _store: &mut Store<B>,
+    pending: &mut Pending,
+    _tally: &mut B::Tally,
+) -> Result<Option<Reply>, NoMemory>
+    ensures { (m : Machine) → Keeps m _store.old.types (B.rows _store.old.table) pending.old → IfOk result (λ reply.
+        Takes (end_turn _setting m) reply _store.new.types (B.rows _store.new.table) pending.new (B.Tally.number _tally.old) (B.Tally.number _tally.new)) }
+{
+    match *pending {
+        Pending::Nothing => Ok(None),
+    }
+}
+
+// The reply to a line where nothing is pending.
 fn reply_to<B: Sorted>(
     alloc: Global,
+    setting: Setting,
     line: &[u8],
-    types: &mut Items<Text>,
-    table: &mut B,
+    store: &mut Store<B>,
     tally: &mut B::Tally,
 ) -> Result<Reply, NoMemory>
-    requires kept { HasState types.old (B.rows table.old) }
-    ensures { (s : State) → Keeps s types.old (B.rows table.old) → IfOk result (λ reply.
-        Executes (outcome_of s (reading (names_of s) line.now)) reply types.new (B.rows table.new) (B.Tally.number tally.old) (B.Tally.number tally.new)) }
+    requires kept { HasState store.old.types (B.rows store.old.table) }
+    ensures { (s : State) → Holds s store.old.types (B.rows store.old.table) → IfOk result (λ reply.
+        Executes (outcome_of setting s (reading store.old.types line.now)) reply store.new.types (B.rows store.new.table) (B.Tally.number tally.old) (B.Tally.number tally.new)) }
 {
-    match read_line(alloc, types.as_slice(), line) {
-        Ok(command) => execute(alloc, command, types, table, tally),
+    match read_line(alloc, store.types.as_slice(), line) {
+        Ok(command) => execute(alloc, setting, command, store, tally),
         Err(LineFault::Refused(code)) => Ok(Reply::Refusal { code, row: None }),
         Err(LineFault::NoMemory) => Err(NoMemory),
     }
@@ -108,35 +167,36 @@ fn reply_to<B: Sorted>(
 /// Serves the lines that end in a piece of the script, and holds what comes after them.
 pub(crate) fn serve_piece<K: Sink, B: Sorted>(
     alloc: Global,
+    setting: Setting,
     piece: &[u8],
     held: &mut Vec<u8>,
     sink: &mut K,
-    types: &mut Items<Text>,
-    table: &mut B,
+    store: &mut Store<B>,
+    pending: &mut Pending,
     tally: &mut B::Tally,
-) -> Result<(), Stop>
-    requires kept { HasState types.old (B.rows table.old) }
-    ensures ok { OnOk result ((start : List ℕ) (m : Machine) → held.old.items ≡ cut start → Keeps m.state types.old (B.rows table.old) →
-        Serves m (complete_from start piece.now) types.new (B.rows table.new) (B.Tally.number tally.old) (B.Tally.number tally.new) (K.written sink.old) (K.written sink.new)) }
+) -> Result<(), SinkRefusal>
+    requires kept { HasMachine store.old.types (B.rows store.old.table) pending.old }
+    ensures ok { OnOk result ((start : List ℕ) (m : Machine) → held.old.items ≡ cut start → Keeps m store.old.types (B.rows store.old.table) pending.old →
+        Serves setting m (complete_from start piece.now)
+        (moment store.old.types (B.rows store.old.table) pending.old (B.Tally.number tally.old) (K.written sink.old))
+        (moment store.new.types (B.rows store.new.table) pending.new (B.Tally.number tally.new) (K.written sink.new))) }
     ensures held { OnOk result ((start : List ℕ) → held.old.items ≡ cut start → held.new.items ≡ cut (partial_from start piece.now)) }
-    ensures err { OnErr result ((start : List ℕ) (m : Machine) → held.old.items ≡ cut start → Keeps m.state types.old (B.rows table.old) →
-        WritesPart (replies m (complete_from start piece.now)) (K.written sink.old) (K.written sink.new)) }
-    ensures kept { OnOk result (HasState types.new (B.rows table.new)) }
-    ensures cause { IsErrOf result Stop.WriteFault → Rose (K.faults sink.old) (K.faults sink.new) }
-    ensures no_read { IsErrOf result Stop.ReadFault → ⊥ }
-    ensures no_limit { IsErrOf result Stop.TooLong → ⊥ }
+    ensures err { OnErr result ((start : List ℕ) (m : Machine) → held.old.items ≡ cut start → Keeps m store.old.types (B.rows store.old.table) pending.old →
+        WritesPart (replies setting m (complete_from start piece.now)) (K.written sink.old) (K.written sink.new)) }
+    ensures kept { OnOk result (HasMachine store.new.types (B.rows store.new.table) pending.new) }
+    ensures cause { IsErrOf result SinkRefusal.Failed → Rose (K.faults sink.old) (K.faults sink.new) }
     ensures later { K.faults sink.old ≤ K.faults sink.new }
 {
     let mut at = 0;
     while let Some(length) = memchr(b'\n', &piece[at..]) {
         let part = &piece[at..at + length];
-        if let Err(stop) = serve_ended(alloc, part, held, sink, types, table, tally) {
-            return Err(stop);
+        if let Err(refusal) = serve_ended(alloc, setting, part, held, sink, store, pending, tally) {
+            return Err(refusal);
         }
         at += length + 1;
     }
     if let Err(NoMemory) = hold(held, &piece[at..]) {
-        return Err(Stop::NoMemory);
+        return Err(SinkRefusal::NoMemory);
     }
     Ok(())
 }
@@ -144,34 +204,35 @@ pub(crate) fn serve_piece<K: Sink, B: Sorted>(
 // Serves the line that ends behind this part of it; before it comes what is held.
 fn serve_ended<K: Sink, B: Sorted>(
     alloc: Global,
+    setting: Setting,
     part: &[u8],
     held: &mut Vec<u8>,
     sink: &mut K,
-    types: &mut Items<Text>,
-    table: &mut B,
+    store: &mut Store<B>,
+    pending: &mut Pending,
     tally: &mut B::Tally,
-) -> Result<(), Stop>
-    requires kept { HasState types.old (B.rows table.old) }
-    ensures ok { OnOk result ((start : List ℕ) (m : Machine) → held.old.items ≡ cut start → Keeps m.state types.old (B.rows table.old) →
-        Serves m ((start ++ part.now) ∷ []) types.new (B.rows table.new) (B.Tally.number tally.old) (B.Tally.number tally.new) (K.written sink.old) (K.written sink.new)) }
+) -> Result<(), SinkRefusal>
+    requires kept { HasMachine store.old.types (B.rows store.old.table) pending.old }
+    ensures ok { OnOk result ((start : List ℕ) (m : Machine) → held.old.items ≡ cut start → Keeps m store.old.types (B.rows store.old.table) pending.old →
+        Serves setting m ((start ++ part.now) ∷ [])
+        (moment store.old.types (B.rows store.old.table) pending.old (B.Tally.number tally.old) (K.written sink.old))
+        (moment store.new.types (B.rows store.new.table) pending.new (B.Tally.number tally.new) (K.written sink.new))) }
     ensures held { OnOk result (held.new.items ≡ []) }
-    ensures err { OnErr result ((start : List ℕ) (m : Machine) → held.old.items ≡ cut start → Keeps m.state types.old (B.rows table.old) →
-        WritesPart (replies m ((start ++ part.now) ∷ [])) (K.written sink.old) (K.written sink.new)) }
-    ensures kept { OnOk result (HasState types.new (B.rows table.new)) }
-    ensures cause { IsErrOf result Stop.WriteFault → Rose (K.faults sink.old) (K.faults sink.new) }
-    ensures no_read { IsErrOf result Stop.ReadFault → ⊥ }
-    ensures no_limit { IsErrOf result Stop.TooLong → ⊥ }
+    ensures err { OnErr result ((start : List ℕ) (m : Machine) → held.old.items ≡ cut start → Keeps m store.old.types (B.rows store.old.table) pending.old →
+        WritesPart (replies setting m ((start ++ part.now) ∷ [])) (K.written sink.old) (K.written sink.new)) }
+    ensures kept { OnOk result (HasMachine store.new.types (B.rows store.new.table) pending.new) }
+    ensures cause { IsErrOf result SinkRefusal.Failed → Rose (K.faults sink.old) (K.faults sink.new) }
     ensures later { K.faults sink.old ≤ K.faults sink.new }
 {
     if held.is_empty() {
         let line = &part[..part.len().min(HELD_LIMIT)];
-        return serve_line(alloc, line, sink, types, table, tally);
+        return serve_line(alloc, setting, line, sink, store, pending, tally);
     }
     if let Err(NoMemory) = hold(held, part) {
-        return Err(Stop::NoMemory);
+        return Err(SinkRefusal::NoMemory);
     }
-    if let Err(stop) = serve_line(alloc, held, sink, types, table, tally) {
-        return Err(stop);
+    if let Err(refusal) = serve_line(alloc, setting, held, sink, store, pending, tally) {
+        return Err(refusal);
     }
     held.clear();
     Ok(())

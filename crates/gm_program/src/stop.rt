@@ -1,8 +1,9 @@
 // Why serving ends before the script does.
 ghost use Rattle.std.specs.Prelude.{◌≡◌};
-ghost use Rattle.gm_program.specs.Statuses.{status_from};
+ghost use Rattle.gm_program.specs.Statuses.{status_from, stop_from};
 
 use crate::Status;
+use gm_outside::SinkRefusal;
 
 #[derive(Clone, Copy, Debug, PartialEq, Eq)]
 pub(crate) enum Stop {
@@ -10,6 +11,16 @@ pub(crate) enum Stop {
     ReadFault,
     WriteFault,
     TooLong,
+}
+
+/// The stop of a run whose sink refused so, or that lacked memory.
+pub(crate) fn stop_of(refusal: SinkRefusal) -> Stop
+    ensures { result ≡ stop_from refusal }
+{
+    match refusal {
+        SinkRefusal::Failed => Stop::WriteFault,
+        SinkRefusal::NoMemory => Stop::NoMemory,
+    }
 }
 
 /// The status of a run that ended so.

@@ -1,23 +1,17 @@
-use Rattle.std.proofs.Common.{◌≡◌, [], arith}
-use Rattle.std.proofs.lemmas.Grind.{common_steps}
-use Rattle.gm_program.proofs.Cutting.{last_line-some, last_line-none}
-use Rattle.gm_program.proofs.Streaming.{serves_none, serves_cut_as, part_cut_as, on_ok, on_err}
+use Rattle.gm_program.specs.Lines.{last_line}
+use Rattle.gm_program.specs.Machine.{after, said, end_turn}
+use Rattle.gm_program.proofs.Streaming.{on_ok, on_err, closes_end, part_of_more, part_behind}
 use Rattle.gm_program.proofs.script.serve_last.Goals as goal
 
-pub returns-then-is_empty-clause-ok : goal.returns-then-is_empty-clause-ok
-returns-then-is_empty-clause-ok g c = λ start m is kept.
-    let none : c.args.held.now ≡ [] = grind (arith, common_steps) in
-    rw (last_line-none start c.args.held.now is none)
-    (serves_none m _ _ _ _ kept ((g.met.B.Tally.Counter g.world.𝓛 g.world.𝓜 g.world.𝓡 ((λ s x. x), (λ x. x), (λ x. x), λ x. x)).fits c.args.tally.now))
+pub returns-in-Err-clause-err : goal.returns-in-Err-clause-err
+returns-in-Err-clause-err g c = λ start m is kept. part_of_more _ (said (end_turn c.args.setting (after c.args.setting m (last_line start))).reply) _ _ (c.in-Err.ensures.err start m is kept)
 
 pub returns-clause-ok : goal.returns-clause-ok
-returns-clause-ok g c =
-    let some : c.args.held.now ≡ [] → ⊥ = λ none. grind (arith, common_steps) in
-    on_ok c.serve_line.result c.serve_line.ensures.ok (λ served start m is kept.
-    rw (last_line-some start c.args.held.now is some) (serves_cut_as m start c.args.held.now _ _ _ _ _ _ is (served m kept)))
+returns-clause-ok g c = on_ok c.serve_end.result c.serve_end.ensures.ok (λ ended start m is kept.
+    let served = c.in_default.ensures.ok start m is kept in
+    closes_end c.args.setting m (last_line start) _ _ _ served (ended (after c.args.setting m (last_line start)) served.keeps))
 
 pub returns-clause-err : goal.returns-clause-err
-returns-clause-err g c =
-    let some : c.args.held.now ≡ [] → ⊥ = λ none. grind (arith, common_steps) in
-    on_err c.serve_line.result c.serve_line.ensures.err (λ part start m is kept.
-    rw (last_line-some start c.args.held.now is some) (part_cut_as m start c.args.held.now _ _ is (part m kept)))
+returns-clause-err g c = on_err c.serve_end.result c.serve_end.ensures.err (λ part start m is kept.
+    let served = c.in_default.ensures.ok start m is kept in
+    part_behind _ (said (end_turn c.args.setting (after c.args.setting m (last_line start))).reply) _ _ _ served.written (part (after c.args.setting m (last_line start)) served.keeps))

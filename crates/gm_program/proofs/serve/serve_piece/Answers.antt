@@ -9,7 +9,7 @@ pub loop-length-init : goal.loop-length-init
 loop-length-init g c = record {
   inside = omega arith;
   kept = c.requires.kept;
-  served = λ start m is kept. serves_none m _ _ _ _ kept ((g.met.B.Tally.Counter g.world.𝓛 g.world.𝓜 g.world.𝓡 ((λ s x. x), (λ x. x), (λ x. x), λ x. x)).fits c.args.tally.now);
+  served = λ start m is kept. serves_none c.args.setting m _ kept ((g.met.B.Tally.Counter g.world.𝓛 g.world.𝓜 g.world.𝓡 ((λ s x. x), (λ x. x), (λ x. x), λ x. x)).fits c.args.tally.now);
   held = λ start is. is;
   later = omega arith;
 }
@@ -30,8 +30,8 @@ loop-length-preserved g c =
       kept = c.in_default-serve_ended.ensures.kept;
       served = λ start m is kept.
           let before = c.loop-length.invariant.served start m is kept in
-          serves_more m start (take at piece) part (take (at + (n + 1)) piece) _ _ _ _ _ _ _ _ _ _ inside whole before
-          (c.in_default-serve_ended.ensures.ok (partial_from start (take at piece)) (after m (complete_from start (take at piece))) (c.loop-length.invariant.held start is) before.keeps);
+          serves_more c.args.setting m start (take at piece) part (take (at + (n + 1)) piece) _ _ _ inside whole before
+          (c.in_default-serve_ended.ensures.ok (partial_from start (take at piece)) (after c.args.setting m (complete_from start (take at piece))) (c.loop-length.invariant.held start is) before.keeps);
       held = λ start is. c.in_default-serve_ended.ensures.held ∙ held_more start (take at piece) part (take (at + (n + 1)) piece) inside whole;
       later = omega (arith, c.loop-length.invariant.later, c.serve_ended.ensures.later);
     }
@@ -43,14 +43,14 @@ returns-in-Err-clause-err g c = λ start m is kept.
     let piece = c.args.piece.now in
     let part = take (at + n - at) (drop at piece) in
     let before = c.loop-length.invariant.served start m is kept in
-    part_more m start (take at piece) part piece (drop (at + (n + 1)) piece) _ _ _ _ _ _ _ (part_inside piece at n c.in-Some.ensures) (part_and_rest piece at n c.in-Some.ensures) before
-    (c.in-Err.ensures.err (partial_from start (take at piece)) (after m (complete_from start (take at piece))) (c.loop-length.invariant.held start is) before.keeps)
+    part_more c.args.setting m start (take at piece) part piece (drop (at + (n + 1)) piece) _ _ _ (part_inside piece at n c.in-Some.ensures) (part_and_rest piece at n c.in-Some.ensures) before
+    (c.in-Err.ensures.err (partial_from start (take at piece)) (after c.args.setting m (complete_from start (take at piece))) (c.loop-length.invariant.held start is) before.keeps)
 
 pub returns-in-Err-hold-clause-err : goal.returns-in-Err-hold-clause-err
 returns-in-Err-hold-clause-err g c = λ start m is kept.
     let at = c.loop-length.at in
     let piece = c.args.piece.now in
-    part_all m start at piece _ _ _ _ _ _ (none_from piece at c.in_default.ensures) (c.loop-length.invariant.served start m is kept)
+    part_all c.args.setting m start at piece _ _ (none_from piece at c.in_default.ensures) (c.loop-length.invariant.served start m is kept)
 
 pub returns-clause-ok : goal.returns-clause-ok
 returns-clause-ok g c = λ start m is kept.

@@ -1,0 +1,147 @@
+// Runs over sources and sinks in memory.
+ghost use Rattle.std.specs.Prelude.{◌≡◌, ◌<◌, IfOk};
+ghost use Rattle.gm_program.specs.Store.{HasState};
+
+use crate::plan::{Failing, Plan};
+use crate::script::Scripts;
+use gm_base::{NoMemory, Tally, Text};
+use gm_outside::{MemorySink, MemorySource, NoGate, SteadyFolder};
+use gm_program::{Status, Store, run};
+use gm_table::{MapTable, Sorted};
+use std::alloc::Global;
+
+/// No case has as many calls of a device.
+const CALLS: u64 = 10_000;
+
+// How a run ended: its status, the rows that it read, what it wrote, and how much of it is flushed.
+#[derive(Drop)]
+struct Ended {
+    status: Status,
+    rows: u64,
+    written: Vec<u8>,
+    flushed: usize,
+}
+
+/// What the runs of a case wrote, and how each ended.
+pub(crate) fn told(alloc: Global, plan: Plan, scripts: Scripts) -> Result<Vec<u8>, NoMemory> {
+    let scripts = scripts.into_list()?;
+    match plan.failing {
+        Failing::EachRead => told_each(alloc, plan, &scripts, true),
+        Failing::EachWrite => told_each(alloc, plan, &scripts, false),
+        _ => told_once(alloc, plan, &scripts),
+    }
+}
+
+// The scripts run one after the other over one store, until a run isn't done.
+fn told_once(alloc: Global, plan: Plan, scripts: &[Vec<u8>]) -> Result<Vec<u8>, NoMemory> {
+    let mut told = Vec::new(alloc);
+    let mut store = Store::new(alloc, MapTable::new(alloc));
+    for script in scripts {
+        let ended = run_once(alloc, plan, script, plan.failing, &mut store)?;
+        tell(alloc, &mut told, &ended)?;
+        if ended.status != Status::Done {
+            return Ok(told);
+        }
+    }
+    Ok(told)
+}
+
+// The first script with one call after the other failing, until a run is done: how each ended, and
+// how many lines it had written.
+fn told_each(
+    alloc: Global,
+    plan: Plan,
+    scripts: &[Vec<u8>],
+    reads: bool,
+) -> Result<Vec<u8>, NoMemory> {
+    let mut told = Vec::new(alloc);
+    let Some(script) = scripts.first() else {
+        return Ok(told);
+    };
+    for call in 0..CALLS {
+        let failing = if reads {
+            Failing::Read(call)
+        } else {
+            Failing::Write(call)
+        };
+        let mut store = Store::new(alloc, MapTable::new(alloc));
+        let ended = run_once(alloc, plan, script, failing, &mut store)?;
+        let lines = ended.written.iter().filter(|byte| **byte == b'\n').count();
+        let bytes = ended.written.len();
+        let status = ended.status.number();
+        let line = format!(in alloc; "status {status} lines {lines} bytes {bytes}\n")?;
+        told.extend_from_slice(line.as_bytes())?;
+        if ended.status == Status::Done {
+            return Ok(told);
+        }
+    }
+    Ok(told)
+}
+
+// One run over the store, with a new tally.
+fn run_once(
+    alloc: Global,
+    plan: Plan,
+    script: &[u8],
+    failing: Failing,
+    store: &mut Store<MapTable>,
+) -> Result<Ended, NoMemory>
+    requires kept { HasState store.old.types (⟦<MapTable as Sorted>⟧.rows store.old.table) }
+    ensures kept { IfOk result (λ ended. ended.status ≡ Status.Done → HasState store.new.types (⟦<MapTable as Sorted>⟧.rows store.new.table)) }
+{
+    let (reads, writes) = match failing {
+        Failing::Read(call) => (one(alloc, call)?, Vec::new(alloc)),
+        Failing::Write(call) => (Vec::new(alloc), one(alloc, call)?),
+        _ => (Vec::new(alloc), Vec::new(alloc)),
+    };
+    let piece = plan.piece.max(1);
+    let mut source = MemorySource::new(script.to_vec(alloc)?, piece, reads);
+    let mut sink = MemorySink::new(alloc, piece, writes);
+    let words = words_of(alloc, plan)?;
+    let mut tally = Tally::new();
+    let status = run(
+        alloc,
+        &words,
+        &mut source,
+        &mut sink,
+        &mut SteadyFolder,
+        &NoGate,
+        store,
+        &mut tally,
+    );
+    Ok(Ended {
+        status,
+        rows: tally.close(),
+        written: sink.bytes().to_vec(alloc)?,
+        flushed: sink.flushed(),
+    })
+}
+
+fn one(alloc: Global, number: u64) -> Result<Vec<u64>, NoMemory> {
+    let mut list = Vec::new(alloc);
+    list.push(number)?;
+    Ok(list)
+}
+
+// The words of the run.
+fn words_of(alloc: Global, plan: Plan) -> Result<Vec<Text>, NoMemory> {
+    let mut words = Vec::new(alloc);
+    if plan.has_word {
+        words.push(Text::from_str(alloc, "--threads")?)?;
+    }
+    Ok(words)
+}
+
+// Appends what a run wrote, and how it ended.
+fn tell(alloc: Global, told: &mut Vec<u8>, ended: &Ended) -> Result<(), NoMemory> {
+    told.extend_from_slice(&ended.written)?;
+    let status = ended.status.number();
+    let rows = ended.rows;
+    let line = format!(in alloc; "status {status} rows {rows}")?;
+    told.extend_from_slice(line.as_bytes())?;
+    if ended.flushed < ended.written.len() {
+        told.extend_from_slice(b" unflushed")?;
+    }
+    told.push(b'\n')?;
+    Ok(())
+}
