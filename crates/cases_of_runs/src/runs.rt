@@ -87,7 +87,8 @@ fn run_once(
     store: &mut Store<MapTable>,
 ) -> Result<Ended, NoMemory>
     requires kept { HasState store.old.types (⟦<MapTable as Sorted>⟧.rows store.old.table) }
-    ensures kept { IfOk result (λ ended. ended.status ≡ Status.Done → HasState store.new.types (⟦<MapTable as Sorted>⟧.rows store.new.table)) }
+    ensures kept { IfOk result (λ ended. ended.status ≡ Status.Done
+        → HasState store.new.types (⟦<MapTable as Sorted>⟧.rows store.new.table)) }
 {
     let (reads, writes) = match failing {
         Failing::Read(call) => (one(alloc, call)?, Vec::new(alloc)),

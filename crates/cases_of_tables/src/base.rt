@@ -44,8 +44,8 @@ fn grow(alloc: Global, pieces: u32) -> Result<String, NoMemory> {
     Ok(format!(in alloc; "{}", bytes.len())?)
 }
 
-// The number of so many spans and the ends of the last, made in a list of its own and in one that had
-// its room before.
+// The number of so many spans and the ends of the last, made in a list of its own and in one that
+// had its room before.
 fn spans(alloc: Global, count: u64) -> Result<String, NoMemory> {
     let mut list = SpanList::new(alloc);
     fill(&mut list, count)?;

@@ -18,8 +18,8 @@ pub fn answer(alloc: Global, word: &str, rest: &str) -> Result<String, NoMemory>
     }
 }
 
-// What three reads of at most 4 of `abcdef` give. The source in memory gives 2 a call and fails at the
-// second.
+// What three reads of at most 4 of `abcdef` give. The source in memory gives 2 a call and fails at
+// the second.
 fn reads(alloc: Global, kind: &str) -> Result<String, NoMemory> {
     let bytes = b"abcdef".to_vec(alloc)?;
     match kind {
@@ -47,8 +47,8 @@ fn three_reads<S: Source>(alloc: Global, source: &mut S) -> Result<String, NoMem
     Ok(format!(in alloc; "{text}, {failed} failed")?)
 }
 
-// What three writes of `abc` leave, and a flush after them. The sink in memory takes 2 a call and fails
-// at the second.
+// What three writes of `abc` leave, and a flush after them. The sink in memory takes 2 a call and
+// fails at the second.
 fn writes(alloc: Global, kind: &str) -> Result<String, NoMemory> {
     match kind {
         "memory" => {

@@ -101,7 +101,8 @@ impl Sorted for Plain {
 
 // A batch that puts one row.
 fn put(alloc: Global, key: &[u8], bytes: &[u8]) -> Result<Batch, NoMemory>
-    ensures { IfOk result (λ batch. IsTrue (are_distinct (batch.removes ++ map key_of batch.puts))) }
+    ensures { IfOk result (λ batch. IsTrue
+        (are_distinct (batch.removes ++ map key_of batch.puts))) }
 {
     let mut puts = Vec::new(alloc);
     puts.push(Row {
@@ -116,7 +117,8 @@ fn put(alloc: Global, key: &[u8], bytes: &[u8]) -> Result<Batch, NoMemory>
 
 // A batch that takes one key out.
 fn removal(alloc: Global, key: &[u8]) -> Result<Batch, NoMemory>
-    ensures { IfOk result (λ batch. IsTrue (are_distinct (batch.removes ++ map key_of batch.puts))) }
+    ensures { IfOk result (λ batch. IsTrue
+        (are_distinct (batch.removes ++ map key_of batch.puts))) }
 {
     let mut removes = Vec::new(alloc);
     removes.push(Bytes::from_slice(alloc, key)?)?;
@@ -234,8 +236,8 @@ fn spanned<B: Sorted<Tally = Tally>>(
     told(alloc, &writer, answer, tally.close())
 }
 
-// So many rows, put one by one, and how many of them spans find that hold every third row, alone and
-// in runs of a hundred.
+// So many rows, put one by one, and how many of them spans find that hold every third row, alone
+// and in runs of a hundred.
 fn rows(alloc: Global, count: u64) -> Result<String, NoMemory> {
     let mut table = MapTable::new(alloc);
     for i in 0..count {

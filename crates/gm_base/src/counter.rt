@@ -2,9 +2,9 @@
 ghost use Rattle.std.specs.Prelude.{◌≡◌, ◌<◌, ◌^◌, ℕ};
 ghost use Rattle.gm_base.specs.Counter.{capped_sum};
 
-/// A number of rows, which a table raises by each row that it hands out. Code that is generic over a
-/// counter has none but those that it was lent and their parts. It can read them, take parts and join
-/// them; it cannot make one, raise one by itself, or drop one. No call takes memory.
+/// A number of rows, which a table raises by each row that it hands out. Code that is generic over
+/// a counter has none but those that it was lent and their parts. It can read them, take parts and
+/// join them; it cannot make one, raise one by itself, or drop one. No call takes memory.
 pub trait Counter {
     /// The number.
     ghost number: { Self → ℕ };

@@ -6,8 +6,8 @@ ghost use Rattle.gm_base.specs.Front.{first_of, rest_of, IsFront};
 
 use std::cmp::Ordering;
 
-/// The first 16 bytes, as a number in base 256, with 0 for those that lack. Bytes are in the order of
-/// these numbers where they differ.
+/// The first 16 bytes, as a number in base 256, with 0 for those that lack. Bytes are in the order
+/// of these numbers where they differ.
 pub fn first_bytes(bytes: &[u8]) -> u128
     ensures { IsFront result bytes.now }
 {

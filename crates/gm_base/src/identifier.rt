@@ -41,7 +41,8 @@ pub enum IdFault {
 impl FeatureId {
     /// The identifier with these bytes.
     pub fn of(alloc: Global, text: &[u8]) -> Result<FeatureId, IdFault>
-        ensures { MatchResult result (λ id. (id ≡ text.now) × (is_identifier text.now ≡ true)) (Fault text.now) }
+        ensures { MatchResult result (λ id. (id ≡ text.now)
+            × (is_identifier text.now ≡ true)) (Fault text.now) }
     {
         let Ok(valid) = str::from_utf8(text) else {
             return Err(IdFault::Form);

@@ -1,5 +1,5 @@
-//! What every layer of gm speaks of: texts, bytes, lists, identifiers, spans of keys, the counter of
-//! rows, the hash of the shards, and the codes of refused lines.
+//! What every layer of gm speaks of: texts, bytes, lists, identifiers, spans of keys, the counter
+//! of rows, the hash of the shards, and the codes of refused lines.
 #![tactic(auto)]
 
 mod bytes;

@@ -1,7 +1,8 @@
 // The answer of a call for which there was no memory.
 use std::alloc::{AllocError, AllocFailed};
 
-/// There was no memory. What the call was to change is as before, unless its contract says otherwise.
+/// There was no memory. What the call was to change is as before, unless its contract says
+/// otherwise.
 #[derive(Clone, Copy, Debug, PartialEq, Eq)]
 pub struct NoMemory;
 

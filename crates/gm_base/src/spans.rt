@@ -6,17 +6,17 @@ use crate::NoMemory;
 use std::alloc::Global;
 use std::marker::Model;
 
-// Where the two ends of a span stop in the buffer. The low end starts where the span before it stops,
-// and the high end where the low one stops.
+// Where the two ends of a span stop in the buffer. The low end starts where the span before it
+// stops, and the high end where the low one stops.
 #[derive(Clone, Copy, Debug)]
 pub(crate) struct Ends {
     low: usize,
     high: usize,
 }
 
-/// Spans of keys, seen as the list of their low and high ends. The low end is a key of the span, and
-/// the high end is none; a span whose high end is not above its low end has no key. The bytes of all
-/// ends stand in one buffer, so a span takes no allocation of its own.
+/// Spans of keys, seen as the list of their low and high ends. The low end is a key of the span,
+/// and the high end is none; a span whose high end is not above its low end has no key. The bytes
+/// of all ends stand in one buffer, so a span takes no allocation of its own.
 #[derive(Debug, Drop)]
 pub struct SpanList {
     bytes: Vec<u8>,
@@ -84,7 +84,8 @@ impl SpanList {
     /// The low and the high end of a span. No memory.
     pub fn get(&self, i: usize) -> (&[u8], &[u8])
         requires { i < length self.now }
-        ensures { let span : Span = (result.0.now, result.1.now) in span ≡ slice_index_or self.now i span }
+        ensures { let span : Span = (result.0.now, result.1.now) in span
+            ≡ slice_index_or self.now i span }
     {
         let start = start_of(&self.ends, i);
         cut(&self.bytes, start, self.ends[i])

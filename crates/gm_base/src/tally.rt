@@ -4,8 +4,8 @@ ghost use Rattle.gm_base.specs.Counter.{capped_sum};
 
 use crate::Counter;
 
-/// A counter of rows that can be made, raised and ended. Tables, the program's `main` and tests alone
-/// do so.
+/// A counter of rows that can be made, raised and ended. Tables, the program's `main` and tests
+/// alone do so.
 #[derive(Debug)]
 pub struct Tally {
     number: u64,

@@ -28,8 +28,8 @@ pub fn write_block(alloc: Global, rows: &RowList) -> Result<Bytes, NoMemory>
     Ok(text)
 }
 
-/// The rows of a block with these bytes. None where there is no such block. Memory is taken row by row,
-/// whatever number the bytes claim.
+/// The rows of a block with these bytes. None where there is no such block. Memory is taken row by
+/// row, whatever number the bytes claim.
 pub fn read_block(alloc: Global, bytes: &[u8]) -> Result<Option<RowList>, NoMemory>
     ensures { IfOk result (λ found. MatchOption found
         ((rows : List Row) → IsBlock rows → bytes.now ≡ block_bytes rows → ⊥)
@@ -48,7 +48,8 @@ pub fn read_block(alloc: Global, bytes: &[u8]) -> Result<Option<RowList>, NoMemo
 fn read_head(bytes: &[u8]) -> Option<(u32, &[u8])>
     ensures { MatchOption result
         ((rows : List Row) → IsBlock rows → bytes.now ≡ block_bytes rows → ⊥)
-        (λ it. (bytes.now ≡ codes "GMBK0001" ++ (to_be_bytes w32 it.0 ++ it.1.now)) × (1 ≤ it.0) × (it.0 ≤ 4096)) }
+        (λ it. (bytes.now ≡ codes "GMBK0001" ++ (to_be_bytes w32 it.0 ++ it.1.now)) × (1 ≤ it.0)
+        × (it.0 ≤ 4096)) }
 {
     if bytes.len() < MARK.len() {
         return None;

@@ -16,7 +16,8 @@ pub(crate) struct Lent<'a> {
 
 /// The number in the first four bytes, and what follows. None where there are fewer.
 pub(crate) fn read_number(bytes: &[u8]) -> Option<(u32, &[u8])>
-    ensures { MatchOption result (length bytes.now < 4) (λ it. bytes.now ≡ to_be_bytes w32 it.0 ++ it.1.now) }
+    ensures { MatchOption result (length bytes.now < 4) (λ it. bytes.now
+        ≡ to_be_bytes w32 it.0 ++ it.1.now) }
 {
     match bytes {
         [a, b, c, d, rest @ ..] => Some((u32::from_be_bytes([*a, *b, *c, *d]), rest)),

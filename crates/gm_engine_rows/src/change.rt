@@ -16,9 +16,10 @@ use gm_table::{Batch, KeyList, Row, RowList};
 use gm_types::{FeatureType, types_hold_together};
 use std::alloc::Global;
 
-/// The change that turns the rows of a state in which an identifier has the old feature, or none, into
-/// those of the state in which it has the new one, or none. Each key of the new feature is put, since
-/// its bytes may differ; of the keys of the old one those are removed that the new one has not.
+/// The change that turns the rows of a state in which an identifier has the old feature, or none,
+/// into those of the state in which it has the new one, or none. Each key of the new feature is
+/// put, since its bytes may differ; of the keys of the old one those are removed that the new one
+/// has not.
 pub fn batch_of(
     alloc: Global,
     of: &FeatureType,
@@ -30,7 +31,8 @@ pub fn batch_of(
     ensures removes { IfOk result (λ batch. batch.removes
         ≡ removes_of of.now (option_copied old.entry) (option_copied new.entry)) }
     ensures puts { IfOk result (λ batch. batch.puts ≡ puts_of of.now (option_copied new.entry)) }
-    ensures distinct { IfOk result (λ batch. IsTrue (are_distinct (batch.removes ++ map key_of_row batch.puts))) }
+    ensures distinct { IfOk result
+        (λ batch. IsTrue (are_distinct (batch.removes ++ map key_of_row batch.puts))) }
 {
     types_hold_together(of);
     keys_tell_features_apart();

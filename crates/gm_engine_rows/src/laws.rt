@@ -20,7 +20,8 @@ use gm_table::rows_of_a_map;
 /// The rows of a state rise, and what stands at a key is the bytes of the feature whose key it is.
 pub fn rows_are_of_features()
     ensures rising { (s : State) → IsRising (rows_of s) }
-    ensures found { (s : State) (key bytes : List ℕ) → at_key key (rows_of s) ≡ Some bytes → IsRow s key bytes }
+    ensures found { (s : State) (key bytes : List ℕ) → at_key key (rows_of s) ≡ Some bytes
+        → IsRow s key bytes }
     ensures all { (s : State) (key bytes : List ℕ) → IsState s → IsRow s key bytes
         → at_key key (rows_of s) ≡ Some bytes }
 {
@@ -28,22 +29,25 @@ pub fn rows_are_of_features()
     rows_of_a_map();
 }
 
-/// Where an identifier of a type is bound to another feature, or for the first time, or unbound, the
-/// change turns the rows of the state into those of the state after it.
+/// Where an identifier of a type is bound to another feature, or for the first time, or unbound,
+/// the change turns the rows of the state into those of the state after it.
 pub fn rows_follow_a_change()
-    ensures { (s : State) (n : ℕ) (t : Specification) (id : List ℕ) (new : Option Feature) → IsState s
+    ensures { (s : State) (n : ℕ) (t : Specification) (id : List ℕ) (new : Option Feature)
+        → IsState s
         → type_at n s ≡ Some t → ForSome new (IsHeld t id) → (key : List ℕ)
-        → applied_at key (removes_of t (feature_at n id s) new) (puts_of t new) (at_key key (rows_of s))
+        → applied_at key (removes_of t (feature_at n id s) new) (puts_of t new)
+        (at_key key (rows_of s))
         ≡ at_key key (rows_of (changed_in n id new s)) }
 {
     keys_tell_features_apart();
     rows_of_a_map();
 }
 
-/// After such a change the state is one, and of the same types; the identifier of that type has the new
-/// feature or none, and every other has what it had.
+/// After such a change the state is one, and of the same types; the identifier of that type has the
+/// new feature or none, and every other has what it had.
 pub fn changes_keep_the_state()
-    ensures state { (s : State) (n : ℕ) (t : Specification) (id : List ℕ) (new : Option Feature) → IsState s
+    ensures state { (s : State) (n : ℕ) (t : Specification) (id : List ℕ) (new : Option Feature)
+        → IsState s
         → type_at n s ≡ Some t → ForSome new (IsHeld t id) → IsState (changed_in n id new s) }
     ensures types { (s : State) (n : ℕ) (id : List ℕ) (new : Option Feature)
         → types_of (changed_in n id new s) ≡ types_of s }
@@ -57,7 +61,8 @@ pub fn changes_keep_the_state()
 pub fn a_new_type_has_no_rows()
     ensures rows { (s : State) (t : Specification) → rows_of (with_type t s) ≡ rows_of s }
     ensures state { (s : State) (t : Specification) → IsState s → IsType t → t.number ≡ length s
-        → are_apart (map (λ (u : Specification). u.name) (types_of (with_type t s))) ≡ true → IsState (with_type t s) }
+        → are_apart (map (λ (u : Specification). u.name) (types_of (with_type t s))) ≡ true
+        → IsState (with_type t s) }
 {
     rows_of_a_map();
 }

@@ -32,8 +32,8 @@ pub type TextList = Items<Text>;
 /// The members of an And or an Or, in the order given.
 pub type FilterList = Vec<Filter>;
 
-/// A test of features. The number in a test is that of the attribute, from 0. Contracts see a filter
-/// by its tree.
+/// A test of features. The number in a test is that of the attribute, from 0. Contracts see a
+/// filter by its tree.
 #[derive(Debug, Drop)]
 pub enum Filter {
     /// True of every feature.

@@ -17,9 +17,9 @@ use gm_calendar::Instant;
 use gm_geom::{Box2, Geometry, Point, check};
 use gm_types::{FeatureType, GeoKind, Kind};
 
-/// Whether each And and Or of the filter has two or more members, each list one or more, and each test
-/// speaks of an attribute of the type and of what may be asked of its kind. It takes no memory, and its
-/// recursion is as deep as the filter.
+/// Whether each And and Or of the filter has two or more members, each list one or more, and each
+/// test speaks of an attribute of the type and of what may be asked of its kind. It takes no
+/// memory, and its recursion is as deep as the filter.
 #[cycle(suiting)]
 pub fn suits(filter: &Filter, of: &FeatureType) -> bool
     ensures { result ≡ spec.suits of.now (tree filter.now) }

@@ -4,8 +4,8 @@ ghost use Rattle.std.specs.Prelude.{◌≡◌, [], ◌≤◌, length, IsUtf8};
 ghost use Rattle.gm_filter.specs.Like.{is_like};
 ghost use Rattle.gm_filter.specs.Wildcards as spec;
 
-/// Whether the text is like the pattern, in which `%` stands for any text and `_` for one character.
-/// Its time is at most the product of the lengths. It takes no memory.
+/// Whether the text is like the pattern, in which `%` stands for any text and `_` for one
+/// character. Its time is at most the product of the lengths. It takes no memory.
 pub fn like(pattern: &[u8], text: &[u8]) -> bool
     requires pattern_is_text { IsUtf8 pattern.now }
     requires text_is_text { IsUtf8 text.now }

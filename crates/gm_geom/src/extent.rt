@@ -44,7 +44,8 @@ fn widen(extent: Option<Box2>, point: Point) -> Option<Box2>
     }
 }
 
-fn low_corner(one: Point, other: Point) -> Point
+/// The lesser of both coordinates.
+pub fn low_corner(one: Point, other: Point) -> Point
     ensures { result ≡ spec.low_corner one other }
 {
     Point {
@@ -53,7 +54,8 @@ fn low_corner(one: Point, other: Point) -> Point
     }
 }
 
-fn high_corner(one: Point, other: Point) -> Point
+/// The greater of both coordinates.
+pub fn high_corner(one: Point, other: Point) -> Point
     ensures { result ≡ spec.high_corner one other }
 {
     Point {

@@ -9,7 +9,7 @@ mod place;
 mod printing;
 mod validity;
 
-pub use extent::bounds;
+pub use extent::{bounds, high_corner, low_corner};
 pub use geometry::{Areas, Geometry, Lines, Points, Rings};
 pub use laws::{has_number_bytes, numbers_are_spelled, reads_back};
 pub use number::{NUMBER_LIMIT, NumberFault, read_fixed};

@@ -179,7 +179,8 @@ fn code_key(
     code: u64,
 ) -> Result<Bytes, NoMemory>
     ensures { IfOk result (λ key. key
-        ≡ spec.code_front (spec.prefix_of of.now kind) (spec.shard_of of.now id.now) code ++ id.now) }
+        ≡ spec.code_front (spec.prefix_of of.now kind) (spec.shard_of of.now id.now) code
+        ++ id.now) }
 {
     let mut key = begun(alloc, of, kind, CODE_LENGTH + id.as_bytes().len())?;
     key.append(&[shard_of(of, id)])?;
@@ -199,7 +200,8 @@ fn bin_code_key(
     code: u64,
 ) -> Result<Bytes, NoMemory>
     ensures { IfOk result (λ key. key
-        ≡ spec.bin_code_front (spec.prefix_of of.now kind) (spec.shard_of of.now id.now) bin code ++ id.now) }
+        ≡ spec.bin_code_front (spec.prefix_of of.now kind) (spec.shard_of of.now id.now) bin code
+        ++ id.now) }
 {
     let mut key = begun(alloc, of, kind, BIN_CODE_LENGTH + id.as_bytes().len())?;
     key.append(&[shard_of(of, id)])?;
@@ -305,7 +307,8 @@ fn push_value_keys(
 ) -> Result<(), NoMemory>
     requires { Fits of.now feature.now }
     ensures { OnOk result (keys.new.items ≡ keys.old.items
-        ++ flat_map (λ kind. spec.keys_in of.now kind feature.now) (attribute_indexes 0 (length of.now.attributes))) }
+        ++ flat_map (λ kind. spec.keys_in of.now kind feature.now)
+        (attribute_indexes 0 (length of.now.attributes))) }
 {
     let count = of.attributes().len() as u16;
     'attributes: for number in 0..count {
@@ -323,7 +326,8 @@ fn push_key(
     keys: &mut Vec<Bytes>,
 ) -> Result<(), NoMemory>
     requires { Fits of.now feature.now }
-    ensures { OnOk result (keys.new.items ≡ keys.old.items ++ spec.keys_in of.now kind feature.now) }
+    ensures { OnOk result (keys.new.items
+        ≡ keys.old.items ++ spec.keys_in of.now kind feature.now) }
 {
     if of.has(kind) {
         if let Some(key) = key_of(alloc, of, kind, feature)? {

@@ -1,5 +1,5 @@
-// Laws of keys, for proofs. Each is the contract of a function that does nothing but call those that
-// it rests on.
+// Laws of keys, for proofs. Each is the contract of a function that does nothing but call those
+// that it rests on.
 ghost use Rattle.std.specs.Prelude.{◌≡◌, ◌<◌, ◌≤◌, ◌^◌, ◌&&◌, ◌==◌, nat_le, nat_eq, ℕ, List, [], ◌∷◌, ◌++◌, Some, is_none, true};
 ghost use Rattle.std.specs.Ordering.{nat_cmp, is_le};
 ghost use Rattle.std.specs.Cmp.Lexicographic.{pointwise, slice_cmp};
@@ -38,19 +38,25 @@ pub fn keys_tell_features_apart()
 /// A key lies between the fronts of a shard and two codes exactly where it is of that shard and its
 /// code is from the one to the other.
 pub fn keys_between_codes()
-    ensures codes { (t : Specification) (kind : IndexKind) (shard other low high code : ℕ) (id : List ℕ)
+    ensures codes { (t : Specification) (kind : IndexKind) (shard other low high code : ℕ)
+        (id : List ℕ)
         → other < 256 → low < 2 ^ 64 → high < 2 ^ 64 → code < 2 ^ 64
-        → is_from_to (code_front (prefix_of t kind) shard low) (after_of (code_front (prefix_of t kind) shard high))
+        → is_from_to (code_front (prefix_of t kind) shard low)
+        (after_of (code_front (prefix_of t kind) shard high))
         (code_front (prefix_of t kind) other code ++ id)
         ≡ ((shard == other) && (nat_le low code && nat_le code high)) }
-    ensures in_bin { (t : Specification) (kind : IndexKind) (shard other bin at low high code : ℕ) (id : List ℕ)
+    ensures in_bin { (t : Specification) (kind : IndexKind) (shard other bin at low high code : ℕ)
+        (id : List ℕ)
         → other < 256 → bin < 2 ^ 16 → at < 2 ^ 16 → low < 2 ^ 64 → high < 2 ^ 64 → code < 2 ^ 64
-        → is_from_to (bin_code_front (prefix_of t kind) shard bin low) (after_of (bin_code_front (prefix_of t kind) shard bin high))
+        → is_from_to (bin_code_front (prefix_of t kind) shard bin low)
+        (after_of (bin_code_front (prefix_of t kind) shard bin high))
         (bin_code_front (prefix_of t kind) other at code ++ id)
         ≡ ((shard == other) && ((bin == at) && (nat_le low code && nat_le code high))) }
-    ensures bins { (t : Specification) (kind : IndexKind) (shard other first last bin code : ℕ) (id : List ℕ)
+    ensures bins { (t : Specification) (kind : IndexKind) (shard other first last bin code : ℕ)
+        (id : List ℕ)
         → other < 256 → first < 2 ^ 16 → last < 2 ^ 16 → bin < 2 ^ 16
-        → is_from_to (bin_front (prefix_of t kind) shard first) (after_of (bin_front (prefix_of t kind) shard last))
+        → is_from_to (bin_front (prefix_of t kind) shard first)
+        (after_of (bin_front (prefix_of t kind) shard last))
         (bin_code_front (prefix_of t kind) other bin code ++ id)
         ≡ ((shard == other) && (nat_le first bin && nat_le bin last)) }
 {
@@ -61,9 +67,11 @@ pub fn keys_between_codes()
 /// A key lies between two bounds behind a prefix exactly where what follows its prefix does.
 pub fn keys_between_values()
     ensures both { (prefix low high rest : List ℕ)
-        → is_from_to (prefix ++ low) (Some (prefix ++ high)) (prefix ++ rest) ≡ is_from_to low (Some high) rest }
+        → is_from_to (prefix ++ low) (Some (prefix ++ high)) (prefix ++ rest)
+        ≡ is_from_to low (Some high) rest }
     ensures to_the_end { (t : Specification) (kind : IndexKind) (low rest : List ℕ)
-        → is_from_to (prefix_of t kind ++ low) (after_of (prefix_of t kind)) (prefix_of t kind ++ rest)
+        → is_from_to (prefix_of t kind ++ low) (after_of (prefix_of t kind))
+        (prefix_of t kind ++ rest)
         ≡ is_le (slice_cmp nat_cmp low rest) }
 {
     fronts_decide();
@@ -72,13 +80,15 @@ pub fn keys_between_values()
 
 /// Between a key and that key with a byte 0 behind it lies that key alone.
 pub fn keys_of_one_identifier()
-    ensures { (key other : List ℕ) → is_from_to key (Some (key ++ 0 ∷ [])) other ≡ pointwise nat_eq key other }
+    ensures { (key other : List ℕ)
+        → is_from_to key (Some (key ++ 0 ∷ [])) other ≡ pointwise nat_eq key other }
 {}
 
-/// A feature that fits has no key in an index of its type exactly where a value that the index needs
-/// is null.
+/// A feature that fits has no key in an index of its type exactly where a value that the index
+/// needs is null.
 pub fn keys_are_missing_where_values_are()
-    ensures { (t : Specification) (kind : IndexKind) (feature : Feature) → HoldsTogether t → Fits t feature
+    ensures { (t : Specification) (kind : IndexKind) (feature : Feature) → HoldsTogether t
+        → Fits t feature
         → has_index t kind ≡ true → is_none (key_of t kind feature) ≡ lacks_value t kind feature }
 {}
 
@@ -94,18 +104,26 @@ pub fn prefixes_tell_indexes_apart()
 
 /// Whatever lies between two bounds of an index begins with the prefix of the index.
 pub fn keys_within_begin_alike()
-    ensures codes { (t : Specification) (kind : IndexKind) (shard low high : ℕ) (key : List ℕ) → shard < 255
-        → is_from_to (code_front (prefix_of t kind) shard low) (after_of (code_front (prefix_of t kind) shard high)) key ≡ true
+    ensures codes { (t : Specification) (kind : IndexKind) (shard low high : ℕ) (key : List ℕ)
+        → shard < 255
+        → is_from_to (code_front (prefix_of t kind) shard low)
+        (after_of (code_front (prefix_of t kind) shard high)) key ≡ true
         → (rest : List ℕ) × (key ≡ prefix_of t kind ++ rest) }
-    ensures in_bin { (t : Specification) (kind : IndexKind) (shard bin low high : ℕ) (key : List ℕ) → shard < 255
-        → is_from_to (bin_code_front (prefix_of t kind) shard bin low) (after_of (bin_code_front (prefix_of t kind) shard bin high)) key ≡ true
+    ensures in_bin { (t : Specification) (kind : IndexKind) (shard bin low high : ℕ) (key : List ℕ)
+        → shard < 255
+        → is_from_to (bin_code_front (prefix_of t kind) shard bin low)
+        (after_of (bin_code_front (prefix_of t kind) shard bin high)) key ≡ true
         → (rest : List ℕ) × (key ≡ prefix_of t kind ++ rest) }
-    ensures bins { (t : Specification) (kind : IndexKind) (shard first last : ℕ) (key : List ℕ) → shard < 255
-        → is_from_to (bin_front (prefix_of t kind) shard first) (after_of (bin_front (prefix_of t kind) shard last)) key ≡ true
+    ensures bins { (t : Specification) (kind : IndexKind) (shard first last : ℕ) (key : List ℕ)
+        → shard < 255
+        → is_from_to (bin_front (prefix_of t kind) shard first)
+        (after_of (bin_front (prefix_of t kind) shard last)) key ≡ true
         → (rest : List ℕ) × (key ≡ prefix_of t kind ++ rest) }
     ensures values { (prefix low high key : List ℕ)
-        → is_from_to (prefix ++ low) (Some (prefix ++ high)) key ≡ true → (rest : List ℕ) × (key ≡ prefix ++ rest) }
-    ensures to_the_end { (t : Specification) (kind : IndexKind) (low key : List ℕ) → IsType t → has_index t kind ≡ true
+        → is_from_to (prefix ++ low) (Some (prefix ++ high)) key ≡ true
+        → (rest : List ℕ) × (key ≡ prefix ++ rest) }
+    ensures to_the_end { (t : Specification) (kind : IndexKind) (low key : List ℕ) → IsType t
+        → has_index t kind ≡ true
         → is_from_to (prefix_of t kind ++ low) (after_of (prefix_of t kind)) key ≡ true
         → (rest : List ℕ) × (key ≡ prefix_of t kind ++ rest) }
 {}

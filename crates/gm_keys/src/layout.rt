@@ -20,7 +20,8 @@ const IDENTIFIER_LIMIT: usize = 128;
 /// Where the identifier of a key begins, and where it ends. None where the type has not the index,
 /// or the key is not laid out as one of it. No memory.
 pub fn id_of(of: &FeatureType, kind: IndexKind, key: &[u8]) -> Option<(usize, usize)>
-    ensures found { IfSome result (λ at. IsTrue (has_index of.now kind) × IsIdAt of.now kind key.now at) }
+    ensures found { IfSome result (λ at. IsTrue (has_index of.now kind)
+        × IsIdAt of.now kind key.now at) }
     ensures only { (middle id : List ℕ) → IsTrue (has_index of.now kind)
         → IsLaidOut of.now kind key.now middle id
         → result ≡ Some (length key.now - length id, length key.now) }

@@ -8,8 +8,8 @@ ghost use Rattle.gm_lexi.specs.After.{after_of, is_before, is_from_to};
 use gm_base::{Bytes, NoMemory};
 use std::alloc::Global;
 
-/// The least bytes that are above all that begin with these: without the bytes 0xFF at their end, the
-/// last byte left being raised by one. None where every byte is 0xFF.
+/// The least bytes that are above all that begin with these: without the bytes 0xFF at their end,
+/// the last byte left being raised by one. None where every byte is 0xFF.
 pub fn after(alloc: Global, bytes: &[u8]) -> Result<Option<Bytes>, NoMemory>
     ensures { IfOk result (λ end. end ≡ after_of bytes.now) }
 {

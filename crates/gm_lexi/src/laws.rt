@@ -7,8 +7,8 @@ ghost use Rattle.byteorder.specs.Endian.{big_bytes};
 ghost use Rattle.gm_calendar.specs.Instant.{IsInstant};
 ghost use Rattle.gm_lexi.specs.Lexicode.{int_bytes, long_bytes, date_bytes, bool_bytes, text_bytes, HasNoZero};
 
-/// The order of the forms is that of the values, and of equal values what follows the forms decides.
-/// Texts are in the order of their bytes.
+/// The order of the forms is that of the values, and of equal values what follows the forms
+/// decides. Texts are in the order of their bytes.
 pub fn values_in_order()
     ensures ints { (a b : ℤ) (s t : List ℕ) → FitsSigned w32 a → FitsSigned w32 b
         → slice_cmp nat_cmp (int_bytes a ++ s) (int_bytes b ++ t)
@@ -27,8 +27,8 @@ pub fn values_in_order()
         ≡ ordering_then (slice_cmp nat_cmp a b) (slice_cmp nat_cmp s t) }
 {}
 
-/// No form is a front of another of its kind: where two forms are followed by something and the whole
-/// is one, the values are one, and so is what follows.
+/// No form is a front of another of its kind: where two forms are followed by something and the
+/// whole is one, the values are one, and so is what follows.
 pub fn no_value_is_a_front()
     ensures ints { (a b : ℤ) (s t : List ℕ) → FitsSigned w32 a → FitsSigned w32 b
         → int_bytes a ++ s ≡ int_bytes b ++ t → (a ≡ b) × (s ≡ t) }
@@ -51,8 +51,8 @@ pub fn numbers_as_places()
         → pos place ≡ value +ℤ pos (2 ^ 63) → long_bytes value ≡ big_bytes 8 place }
 {}
 
-/// Numbers in so many bytes, the highest first, are in the order of these, none of them is a front of
-/// another, and a front that two strings share does not count.
+/// Numbers in so many bytes, the highest first, are in the order of these, none of them is a front
+/// of another, and a front that two strings share does not count.
 pub fn big_bytes_in_order()
     ensures order { (width a b : ℕ) (s t : List ℕ) → a < 256 ^ width → b < 256 ^ width
         → slice_cmp nat_cmp (big_bytes width a ++ s) (big_bytes width b ++ t)

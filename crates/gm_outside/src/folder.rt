@@ -32,47 +32,62 @@ pub trait Folder {
     /// Names the folder, and makes it where it is missing. It may come again.
     fn open(&mut self, alloc: Global, place: &Text) -> Result<(), FolderRefusal>
         ensures same { map self.new ≡ map self.old }
-        ensures cause { IsErrOf result FolderRefusal.Failed → Rose (faults self.old) (faults self.new) }
+        ensures cause { IsErrOf result FolderRefusal.Failed
+            → Rose (faults self.old) (faults self.new) }
         ensures later { faults self.old ≤ faults self.new };
 
     /// The bytes of a name. None exactly where the name is missing.
     fn get(&mut self, alloc: Global, name: &Text) -> Result<Option<Bytes>, FolderRefusal>
-        ensures found { IfOk result (λ bytes. ForSome (map self.old) (λ m. bytes ≡ files.get m name.now)) }
+        ensures found { IfOk result
+            (λ bytes. ForSome (map self.old) (λ m. bytes ≡ files.get m name.now)) }
         ensures same { map self.new ≡ map self.old }
-        ensures cause { IsErrOf result FolderRefusal.Failed → Rose (faults self.old) (faults self.new) }
+        ensures cause { IsErrOf result FolderRefusal.Failed
+            → Rose (faults self.old) (faults self.new) }
         ensures later { faults self.old ≤ faults self.new };
 
     /// Gives a name these bytes. After an error the name is missing or has any bytes.
     fn put(&mut self, alloc: Global, name: &Text, bytes: &[u8]) -> Result<(), FolderRefusal>
-        ensures ok { OnOk result (ForSome (map self.old) (λ m. map self.new ≡ Some (files.insert m name.now bytes.now))) }
+        ensures ok { OnOk result (ForSome (map self.old) (λ m. map self.new
+            ≡ Some (files.insert m name.now bytes.now))) }
         ensures err { OnErr result (ForSome (map self.old) (λ m. ForSome (map self.new) (λ n.
             (q : List ℕ) → q ≢ name.now → files.get n q ≡ files.get m q))) }
         ensures told { IsSome (map self.old) → IsSome (map self.new) }
-        ensures cause { IsErrOf result FolderRefusal.Failed → Rose (faults self.old) (faults self.new) }
+        ensures cause { IsErrOf result FolderRefusal.Failed
+            → Rose (faults self.old) (faults self.new) }
         ensures later { faults self.old ≤ faults self.new };
 
-    /// Gives the bytes of a name to another. It is one step: after an error it was done or not begun.
+    /// Gives the bytes of a name to another. It is one step: after an error it was done or not
+    /// begun.
     fn rename(&mut self, alloc: Global, from: &Text, to: &Text) -> Result<(), FolderRefusal>
         requires differ { from.now ≢ to.now }
         requires there { ForSome (map self.old) (λ m. IsSome (files.get m from.now)) }
-        ensures ok { OnOk result (ForSome (map self.old) (λ m. ForSome (map self.new) (Renamed from.now to.now m))) }
-        ensures err { OnErr result (ForSome (map self.old) (λ m. ForSome (map self.new) (OldOr (Renamed from.now to.now m) m))) }
+        ensures ok { OnOk result (ForSome (map self.old)
+            (λ m. ForSome (map self.new) (Renamed from.now to.now m))) }
+        ensures err { OnErr result
+            (ForSome (map self.old) (λ m. ForSome (map self.new)
+            (OldOr (Renamed from.now to.now m) m))) }
         ensures told { IsSome (map self.old) → IsSome (map self.new) }
-        ensures cause { IsErrOf result FolderRefusal.Failed → Rose (faults self.old) (faults self.new) }
+        ensures cause { IsErrOf result FolderRefusal.Failed
+            → Rose (faults self.old) (faults self.new) }
         ensures later { faults self.old ≤ faults self.new };
 
     /// Takes a name away; a missing name gives Ok. After an error the name is as before or gone.
     fn remove(&mut self, alloc: Global, name: &Text) -> Result<(), FolderRefusal>
-        ensures ok { OnOk result (ForSome (map self.old) (λ m. ForSome (map self.new) (Removed name.now m))) }
-        ensures err { OnErr result (ForSome (map self.old) (λ m. ForSome (map self.new) (OldOr (Removed name.now m) m))) }
+        ensures ok { OnOk result (ForSome (map self.old)
+            (λ m. ForSome (map self.new) (Removed name.now m))) }
+        ensures err { OnErr result
+            (ForSome (map self.old) (λ m. ForSome (map self.new) (OldOr (Removed name.now m) m))) }
         ensures told { IsSome (map self.old) → IsSome (map self.new) }
-        ensures cause { IsErrOf result FolderRefusal.Failed → Rose (faults self.old) (faults self.new) }
+        ensures cause { IsErrOf result FolderRefusal.Failed
+            → Rose (faults self.old) (faults self.new) }
         ensures later { faults self.old ≤ faults self.new };
 
-    /// The names, in the order of their bytes. An adapter counts a name that is not UTF-8 as a fault.
+    /// The names, in the order of their bytes. An adapter counts a name that is not UTF-8 as a
+    /// fault.
     fn names(&mut self, alloc: Global) -> Result<Names, FolderRefusal>
         ensures found { IfOk result (λ names. ForSome (map self.old) (λ m. names ≡ files.keys m)) }
         ensures same { map self.new ≡ map self.old }
-        ensures cause { IsErrOf result FolderRefusal.Failed → Rose (faults self.old) (faults self.new) }
+        ensures cause { IsErrOf result FolderRefusal.Failed
+            → Rose (faults self.old) (faults self.new) }
         ensures later { faults self.old ≤ faults self.new };
 }

@@ -1,8 +1,8 @@
 // How a source in memory gives its bytes.
 ghost use Rattle.std.specs.Prelude.{◌≡◌, ◌≤◌, ◌<◌, [], length, min, take};
 
-/// Copies the first bytes, at most a piece of them and at most as many as there is room for, and says
-/// how many.
+/// Copies the first bytes, at most a piece of them and at most as many as there is room for, and
+/// says how many.
 pub(crate) fn give(bytes: &[u8], piece: usize, into: &mut [u8]) -> usize
     requires some { 0 < piece }
     requires room { 0 < length into.old }

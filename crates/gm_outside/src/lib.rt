@@ -1,6 +1,6 @@
 //! What a run is lent of the outside: a source, a sink, a folder and a gate, each a trait by its
-//! meaning, with the forms in memory that tests cut and fail at will, those that never fail, and the
-//! adapters over the streams of the machine.
+//! meaning, with the forms in memory that tests cut and fail at will, those that never fail, and
+//! the adapters over the streams of the machine.
 #![tactic(auto)]
 
 mod failed;

@@ -96,7 +96,8 @@ impl Sink for MemorySink {
     fn write(&mut self, _alloc: Global, from: &[u8]) -> Result<usize, SinkRefusal>
         requires { 0 < length from.now }
         ensures some { IfOk result (λ n. 0 < n) }
-        ensures bytes { IfOk result (λ n. self.new.bytes.items ≡ self.old.bytes.items ++ take n from.now) }
+        ensures bytes { IfOk result (λ n. self.new.bytes.items
+            ≡ self.old.bytes.items ++ take n from.now) }
         ensures err { OnErr result (self.new.bytes.items ≡ self.old.bytes.items) }
         ensures flushed { self.new.flushed ≡ self.old.flushed }
         ensures cause { IsErrOf result SinkRefusal.Failed → Rose self.old.faults self.new.faults }
@@ -104,7 +105,8 @@ impl Sink for MemorySink {
 
         // How it is cut and failed.
         ensures size { IfOk result (λ n. n ≡ min self.old.piece (length from.now)) }
-        ensures fails { IsErrOf result SinkRefusal.Failed ↔ (is_among self.old.calls self.old.failing.items ≡ true) }
+        ensures fails { IsErrOf result SinkRefusal.Failed
+            ↔ (is_among self.old.calls self.old.failing.items ≡ true) }
         ensures calls { self.new.calls ≡ capped_sum self.old.calls 1 }
         ensures piece { self.new.piece ≡ self.old.piece }
         ensures failing { self.new.failing ≡ self.old.failing }

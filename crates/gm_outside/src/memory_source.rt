@@ -59,14 +59,17 @@ impl Source for MemorySource {
         requires { 0 < length into.old }
         ensures fits { IfOk result (λ n. n ≤ length into.old) }
         ensures bytes { IfOk result (λ n. ForSome (Some (drop self.old.at self.old.bytes.items))
-            (λ bytes. Gives bytes (take n into.new) (Some (drop self.new.at self.new.bytes.items)))) }
+            (λ bytes. Gives bytes (take n into.new)
+            (Some (drop self.new.at self.new.bytes.items)))) }
         ensures err { OnErr result (self.new.at ≡ self.old.at) }
         ensures same { self.new.bytes ≡ self.old.bytes }
         ensures cause { OnErr result (Rose self.old.faults self.new.faults) }
         ensures later { self.old.faults ≤ self.new.faults }
 
         // How it is cut and failed.
-        ensures size { IfOk result (λ n. n ≡ min self.old.piece (min (length into.old) (length (drop self.old.at self.old.bytes.items)))) }
+        ensures size { IfOk result (λ n. n
+            ≡ min self.old.piece (min (length into.old)
+            (length (drop self.old.at self.old.bytes.items)))) }
         ensures fails { is_err result ≡ is_among self.old.calls self.old.failing.items }
         ensures calls { self.new.calls ≡ capped_sum self.old.calls 1 }
         ensures piece { self.new.piece ≡ self.old.piece }

@@ -30,15 +30,19 @@ pub trait Sink {
         requires { 0 < length from.now }
         ensures some { IfOk result (λ n. 0 < n) }
         ensures fits { IfOk result (λ n. n ≤ length from.now) }
-        ensures bytes { IfOk result (λ n. ForSome (written self.old) (λ bytes. written self.new ≡ Some (bytes ++ take n from.now))) }
+        ensures bytes { IfOk result
+            (λ n. ForSome (written self.old) (λ bytes. written self.new
+            ≡ Some (bytes ++ take n from.now))) }
         ensures err { OnErr result (written self.new ≡ written self.old) }
         ensures flushed { flushed self.old ≤ flushed self.new }
-        ensures cause { IsErrOf result SinkRefusal.Failed → Rose (faults self.old) (faults self.new) }
+        ensures cause { IsErrOf result SinkRefusal.Failed
+            → Rose (faults self.old) (faults self.new) }
         ensures later { faults self.old ≤ faults self.new };
 
     /// Sees to it that what was written is out of the program's hands.
     fn flush(&mut self) -> Result<(), Failed>
-        ensures ok { OnOk result (ForSome (written self.old) (λ bytes. flushed self.new ≡ length bytes)) }
+        ensures ok { OnOk result (ForSome (written self.old) (λ bytes. flushed self.new
+            ≡ length bytes)) }
         ensures bytes { written self.new ≡ written self.old }
         ensures flushed { flushed self.old ≤ flushed self.new }
         ensures cause { OnErr result (Rose (faults self.old) (faults self.new)) }

@@ -18,7 +18,9 @@ pub trait Source {
     fn read(&mut self, into: &mut [u8]) -> Result<usize, Failed>
         requires { 0 < length into.old }
         ensures fits { IfOk result (λ n. n ≤ length into.old) }
-        ensures bytes { IfOk result (λ n. ForSome (left self.old) (λ bytes. Gives bytes (take n into.new) (left self.new))) }
+        ensures bytes { IfOk result
+            (λ n. ForSome (left self.old)
+            (λ bytes. Gives bytes (take n into.new) (left self.new))) }
         ensures err { OnErr result (left self.new ≡ left self.old) }
         ensures cause { OnErr result (Rose (faults self.old) (faults self.new)) }
         ensures later { faults self.old ≤ faults self.new };

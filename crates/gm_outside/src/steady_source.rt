@@ -30,9 +30,11 @@ impl Source for SteadySource {
     fn read(&mut self, into: &mut [u8]) -> Result<usize, Failed>
         requires { 0 < length into.old }
         ensures ok { IsOk result }
-        ensures all { IfOk result (λ n. n ≡ min (length into.old) (length (drop self.old.at self.old.bytes.items))) }
+        ensures all { IfOk result (λ n. n
+            ≡ min (length into.old) (length (drop self.old.at self.old.bytes.items))) }
         ensures bytes { IfOk result (λ n. ForSome (Some (drop self.old.at self.old.bytes.items))
-            (λ bytes. Gives bytes (take n into.new) (Some (drop self.new.at self.new.bytes.items)))) }
+            (λ bytes. Gives bytes (take n into.new)
+            (Some (drop self.new.at self.new.bytes.items)))) }
     {
         let n = give(&self.bytes[self.at..], usize::MAX, into);
         self.at += n;

@@ -8,9 +8,9 @@ use crate::{Failed, Sink, SinkRefusal};
 use std::alloc::Global;
 use std::io::Write;
 
-/// Hands on what is written. As a sink it tells nothing of it; `write` says what the writer then holds,
-/// where the writer tells that. Each error of the writer is a fault, and so is a write that takes
-/// nothing. It takes no memory of its own.
+/// Hands on what is written. As a sink it tells nothing of it; `write` says what the writer then
+/// holds, where the writer tells that. Each error of the writer is a fault, and so is a write that
+/// takes nothing. It takes no memory of its own.
 #[derive(Debug, Drop)]
 pub struct StreamSink<W: Write> {
     writer: W,
@@ -41,7 +41,8 @@ impl<W: Write> Sink for StreamSink<W> {
         ensures cause { IsErrOf result SinkRefusal.Failed → Rose self.old.faults self.new.faults }
         ensures memory { IsErrOf result SinkRefusal.NoMemory → ⊥ }
         ensures later { self.old.faults ≤ self.new.faults }
-        ensures writer { WriteAppends (W.contents self.old.writer) (W.contents self.new.writer) result from.now }
+        ensures writer { WriteAppends (W.contents self.old.writer)
+            (W.contents self.new.writer) result from.now }
     {
         match self.writer.write(from) {
             Ok(n) if n > 0 => Ok(n),

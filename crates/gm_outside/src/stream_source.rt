@@ -6,8 +6,8 @@ ghost use Rattle.gm_outside.specs.Failed.{Rose};
 use crate::{Failed, Source};
 use std::io::Read;
 
-/// Gives what the reader gives. As a source it tells nothing of it; `read` says what the reader then has
-/// left, where the reader tells that. Each error of the reader is a fault.
+/// Gives what the reader gives. As a source it tells nothing of it; `read` says what the reader
+/// then has left, where the reader tells that. Each error of the reader is a fault.
 #[derive(Debug, Drop)]
 pub struct StreamSource<R: Read> {
     reader: R,
@@ -32,7 +32,8 @@ impl<R: Read> Source for StreamSource<R> {
         ensures fits { IfOk result (λ n. n ≤ length into.old) }
         ensures cause { OnErr result (Rose self.old.faults self.new.faults) }
         ensures later { self.old.faults ≤ self.new.faults }
-        ensures reader { ReadConsumes (R.remaining self.old.reader) (R.remaining self.new.reader) result into.new }
+        ensures reader { ReadConsumes (R.remaining self.old.reader)
+            (R.remaining self.new.reader) result into.new }
     {
         match self.reader.read(into) {
             Ok(n) => Ok(n),

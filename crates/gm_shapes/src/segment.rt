@@ -1,10 +1,9 @@
 // Segments: on which side of one a point lies, and whether two meet.
 ghost use Rattle.std.specs.Prelude.{◌≡◌, ◌≤◌, ◌^◌, ◌-ℤ◌, ◌*ℤ◌, unsigned_abs};
-ghost use Rattle.gm_geom.specs.Extent as extent;
 ghost use Rattle.gm_shapes.specs.Segment as spec;
 ghost use Rattle.gm_shapes.specs.Segment.{segment, lone_box, side_of, do_meet};
 
-use gm_geom::{Box2, Point};
+use gm_geom::{Box2, Point, high_corner, low_corner};
 
 /// A closed segment. Its two ends may be one point.
 #[derive(Clone, Copy, Debug, PartialEq, Eq)]
@@ -34,24 +33,6 @@ pub fn box_of(edge: Segment) -> Box2
     Box2 {
         low: low_corner(edge.start, edge.end),
         high: high_corner(edge.start, edge.end),
-    }
-}
-
-fn low_corner(one: Point, other: Point) -> Point
-    ensures { result ≡ extent.low_corner one other }
-{
-    Point {
-        x: one.x.min(other.x),
-        y: one.y.min(other.y),
-    }
-}
-
-fn high_corner(one: Point, other: Point) -> Point
-    ensures { result ≡ extent.high_corner one other }
-{
-    Point {
-        x: one.x.max(other.x),
-        y: one.y.max(other.y),
     }
 }
 

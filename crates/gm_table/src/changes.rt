@@ -17,7 +17,8 @@ pub(crate) fn put_rows(
     puts: &[Row],
 ) -> Result<(), NoMemory>
     requires { IsRising map.old.entries }
-    ensures ok { OnOk result ((key : List ℕ) → at_key key map.new.entries ≡ put_at key puts.now (at_key key map.old.entries)) }
+    ensures ok { OnOk result ((key : List ℕ)
+        → at_key key map.new.entries ≡ put_at key puts.now (at_key key map.old.entries)) }
     ensures err { OnErr result (map.new.entries ≡ map.old.entries) }
     ensures none { puts.now ≡ [] → IsOk result }
     ensures rising { IsRising map.new.entries }
@@ -40,8 +41,10 @@ fn put_one(
     olds: &mut Vec<Option<Bytes>>,
 ) -> Result<(), NoMemory>
     requires { IsRising map.old.entries }
-    ensures ok { OnOk result ((key : List ℕ) → at_key key map.new.entries ≡ put_at key (put.now ∷ []) (at_key key map.old.entries)) }
-    ensures noted { OnOk result (olds.new.items ≡ olds.old.items ++ at_key put.now.key map.old.entries ∷ []) }
+    ensures ok { OnOk result ((key : List ℕ)
+        → at_key key map.new.entries ≡ put_at key (put.now ∷ []) (at_key key map.old.entries)) }
+    ensures noted { OnOk result (olds.new.items
+        ≡ olds.old.items ++ at_key put.now.key map.old.entries ∷ []) }
     ensures err { OnErr result (map.new.entries ≡ map.old.entries) }
     ensures err_olds { OnErr result (olds.new.items ≡ olds.old.items) }
     ensures rising { IsRising map.new.entries }
@@ -58,7 +61,9 @@ fn put_one(
 fn take_back(map: &mut BTreeMap<Bytes, Bytes>, puts: &[Row], mut olds: Vec<Option<Bytes>>)
     requires few { length olds.items ≤ length puts.now }
     requires rising { IsRising map.old.entries }
-    ensures undone { (key : List ℕ) → at_key key map.new.entries ≡ undone_at key puts.now olds.items (at_key key map.old.entries) }
+    ensures undone { (key : List ℕ)
+        → at_key key map.new.entries
+        ≡ undone_at key puts.now olds.items (at_key key map.old.entries) }
     ensures rising { IsRising map.new.entries }
 {
     while let Some(old) = olds.pop() {
@@ -69,7 +74,9 @@ fn take_back(map: &mut BTreeMap<Bytes, Bytes>, puts: &[Row], mut olds: Vec<Optio
 // Gives a key what it had before a row was put in there.
 fn restore(map: &mut BTreeMap<Bytes, Bytes>, key: &Bytes, old: Option<Bytes>)
     requires { IsRising map.old.entries }
-    ensures restored { (other : List ℕ) → at_key other map.new.entries ≡ restored_at other key.now old (at_key other map.old.entries) }
+    ensures restored { (other : List ℕ)
+        → at_key other map.new.entries
+        ≡ restored_at other key.now old (at_key other map.old.entries) }
     ensures rising { IsRising map.new.entries }
 {
     match old {
@@ -87,7 +94,9 @@ fn restore(map: &mut BTreeMap<Bytes, Bytes>, key: &Bytes, old: Option<Bytes>)
 /// Takes these keys out.
 pub(crate) fn remove_keys(map: &mut BTreeMap<Bytes, Bytes>, keys: &[Bytes])
     requires { IsRising map.old.entries }
-    ensures removed { (key : List ℕ) → at_key key map.new.entries ≡ (if has_key key keys.now then None else at_key key map.old.entries) }
+    ensures removed { (key : List ℕ)
+        → at_key key map.new.entries
+        ≡ (if has_key key keys.now then None else at_key key map.old.entries) }
     ensures rising { IsRising map.new.entries }
 {
     for key in keys {

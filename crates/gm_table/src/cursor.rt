@@ -58,13 +58,17 @@ impl<'a> Cursor<'a> {
     ) -> Result<(), NoMemory>
         requires rising { IsRising map.now.entries }
         requires at { IsAt self.old map.now.entries }
-        requires admits { All (λ row. V.admits visit.old row.0 row.1) (between low.now high.now map.now.entries) }
+        requires admits { All (λ row. V.admits visit.old row.0 row.1)
+            (between low.now high.now map.now.entries) }
         ensures at { OnOk result (IsAt self.new map.now.entries) }
-        ensures handed { OnOk result (Handed V.takes visit.old (between low.now high.now map.now.entries) visit.new) }
+        ensures handed { OnOk result
+            (Handed V.takes visit.old (between low.now high.now map.now.entries) visit.new) }
         ensures tally { OnOk result (tally_number tally.new
-            ≡ capped_sum (tally_number tally.old) (length (between low.now high.now map.now.entries))) }
+            ≡ capped_sum (tally_number tally.old)
+            (length (between low.now high.now map.now.entries))) }
         ensures stopped { IfErr result (λ fault. (handed : ℕ)
-            × Stops V.takes visit.old (between low.now high.now map.now.entries) fault visit.new handed
+            × Stops V.takes visit.old
+            (between low.now high.now map.now.entries) fault visit.new handed
             × (tally_number tally.new ≡ capped_sum (tally_number tally.old) handed)) }
     {
         if self.is_clear(low, high) {
@@ -88,8 +92,8 @@ impl<'a> Cursor<'a> {
         Ok(())
     }
 
-    // Goes to the first row from this key on: over a few rows below it, and by a way down the map where
-    // there are more.
+    // Goes to the first row from this key on: over a few rows below it, and by a way down the map
+    // where there are more.
     fn reach(&mut self, map: &'a BTreeMap<Bytes, Bytes>, low: &'a [u8], room: &mut Bytes)
         requires rising { IsRising map.now.entries }
         requires at { IsAt self.old map.now.entries }
@@ -167,7 +171,8 @@ fn first_from<'a>(rest: &mut Range<'a, Bytes, Bytes>, key: &[u8]) -> Option<(&'a
 
 // Whether the place is a row below the key.
 fn is_below(place: Option<(&Bytes, &Bytes)>, key: &End<'_>) -> bool
-    ensures below { result ≡ true → (rest : Rows) → rows_after key.now (pending place.entry rest) ≡ rows_after key.now rest }
+    ensures below { result ≡ true → (rest : Rows)
+        → rows_after key.now (pending place.entry rest) ≡ rows_after key.now rest }
     ensures clear { result ≡ false → IsClear key.now place.entry }
 {
     match place {
@@ -182,7 +187,8 @@ fn step_over<'a>(
     rest: &mut Range<'a, Bytes, Bytes>,
     key: &End<'_>,
 ) -> Option<(&'a Bytes, &'a Bytes)>
-    ensures { rows_after key.now (pending result rest.new) ≡ rows_after key.now (pending place.entry rest.old) }
+    ensures { rows_after key.now (pending result rest.new)
+        ≡ rows_after key.now (pending place.entry rest.old) }
 {
     let mut next = place;
     'steps: for _ in 0..STEPS {
@@ -194,8 +200,8 @@ fn step_over<'a>(
     next
 }
 
-// Hands out the rows below the key, and answers the first of the others. Where there are many, the end
-// is searched for.
+// Hands out the rows below the key, and answers the first of the others. Where there are many, the
+// end is searched for.
 fn hand_out<'a, V: Visit>(
     map: &'a BTreeMap<Bytes, Bytes>,
     alloc: Global,
@@ -208,13 +214,18 @@ fn hand_out<'a, V: Visit>(
 ) -> Result<Option<(&'a Bytes, &'a Bytes)>, NoMemory>
     requires rising { IsRising map.now.entries }
     requires last { IsLastOf (pending place rest.old) map.now.entries }
-    requires admits { All (λ row. V.admits visit.old row.0 row.1) (rows_below high.now (pending place rest.old)) }
-    ensures after { IfOk result (λ left. pending left rest.new ≡ rows_after high.now (pending place.entry rest.old)) }
-    ensures handed { OnOk result (Handed V.takes visit.old (rows_below high.now (pending place.entry rest.old)) visit.new) }
+    requires admits { All (λ row. V.admits visit.old row.0 row.1)
+        (rows_below high.now (pending place rest.old)) }
+    ensures after { IfOk result (λ left. pending left rest.new
+        ≡ rows_after high.now (pending place.entry rest.old)) }
+    ensures handed { OnOk result
+        (Handed V.takes visit.old (rows_below high.now (pending place.entry rest.old)) visit.new) }
     ensures tally { OnOk result (tally_number tally.new
-        ≡ capped_sum (tally_number tally.old) (length (rows_below high.now (pending place.entry rest.old)))) }
+        ≡ capped_sum (tally_number tally.old)
+        (length (rows_below high.now (pending place.entry rest.old)))) }
     ensures stopped { IfErr result (λ fault. (handed : ℕ)
-        × Stops V.takes visit.old (rows_below high.now (pending place.entry rest.old)) fault visit.new handed
+        × Stops V.takes visit.old
+        (rows_below high.now (pending place.entry rest.old)) fault visit.new handed
         × (tally_number tally.new ≡ capped_sum (tally_number tally.old) handed)) }
 {
     let end = End::of(high);
@@ -247,13 +258,18 @@ fn hand_out_many<'a, V: Visit>(
 ) -> Result<Option<(&'a Bytes, &'a Bytes)>, NoMemory>
     requires rising { IsRising map.now.entries }
     requires last { IsLastOf (pending place rest.old) map.now.entries }
-    requires admits { All (λ row. V.admits visit.old row.0 row.1) (rows_below high.now (pending place rest.old)) }
-    ensures after { IfOk result (λ left. pending left rest.new ≡ rows_after high.now (pending place.entry rest.old)) }
-    ensures handed { OnOk result (Handed V.takes visit.old (rows_below high.now (pending place.entry rest.old)) visit.new) }
+    requires admits { All (λ row. V.admits visit.old row.0 row.1)
+        (rows_below high.now (pending place rest.old)) }
+    ensures after { IfOk result (λ left. pending left rest.new
+        ≡ rows_after high.now (pending place.entry rest.old)) }
+    ensures handed { OnOk result
+        (Handed V.takes visit.old (rows_below high.now (pending place.entry rest.old)) visit.new) }
     ensures tally { OnOk result (tally_number tally.new
-        ≡ capped_sum (tally_number tally.old) (length (rows_below high.now (pending place.entry rest.old)))) }
+        ≡ capped_sum (tally_number tally.old)
+        (length (rows_below high.now (pending place.entry rest.old)))) }
     ensures stopped { IfErr result (λ fault. (handed : ℕ)
-        × Stops V.takes visit.old (rows_below high.now (pending place.entry rest.old)) fault visit.new handed
+        × Stops V.takes visit.old
+        (rows_below high.now (pending place.entry rest.old)) fault visit.new handed
         × (tally_number tally.new ≡ capped_sum (tally_number tally.old) handed)) }
 {
     let Some((first, _)) = place else {
@@ -288,13 +304,18 @@ fn hand_out_all<'a, V: Visit>(
     visit: &mut V,
     tally: &mut Tally,
 ) -> Result<Option<(&'a Bytes, &'a Bytes)>, NoMemory>
-    requires { All (λ row. V.admits visit.old row.0 row.1) (rows_below high.now (pending place rest.old)) }
-    ensures after { IfOk result (λ left. pending left rest.new ≡ rows_after high.now (pending place.entry rest.old)) }
-    ensures handed { OnOk result (Handed V.takes visit.old (rows_below high.now (pending place.entry rest.old)) visit.new) }
+    requires { All (λ row. V.admits visit.old row.0 row.1)
+        (rows_below high.now (pending place rest.old)) }
+    ensures after { IfOk result (λ left. pending left rest.new
+        ≡ rows_after high.now (pending place.entry rest.old)) }
+    ensures handed { OnOk result
+        (Handed V.takes visit.old (rows_below high.now (pending place.entry rest.old)) visit.new) }
     ensures tally { OnOk result (tally_number tally.new
-        ≡ capped_sum (tally_number tally.old) (length (rows_below high.now (pending place.entry rest.old)))) }
+        ≡ capped_sum (tally_number tally.old)
+        (length (rows_below high.now (pending place.entry rest.old)))) }
     ensures stopped { IfErr result (λ fault. (handed : ℕ)
-        × Stops V.takes visit.old (rows_below high.now (pending place.entry rest.old)) fault visit.new handed
+        × Stops V.takes visit.old
+        (rows_below high.now (pending place.entry rest.old)) fault visit.new handed
         × (tally_number tally.new ≡ capped_sum (tally_number tally.old) handed)) }
 {
     let end = End::of(high);
@@ -319,8 +340,10 @@ pub(crate) fn scan_range<V: Visit>(
     visit: &mut V,
     tally: &mut Tally,
 ) -> Result<(), NoMemory>
-    requires { All (λ row. V.admits visit.old row.0 row.1) (between low.now high.now map.now.entries) }
-    ensures handed { OnOk result (Handed V.takes visit.old (between low.now high.now map.now.entries) visit.new) }
+    requires { All (λ row. V.admits visit.old row.0 row.1)
+        (between low.now high.now map.now.entries) }
+    ensures handed { OnOk result
+        (Handed V.takes visit.old (between low.now high.now map.now.entries) visit.new) }
     ensures tally { OnOk result (tally_number tally.new
         ≡ capped_sum (tally_number tally.old) (length (between low.now high.now map.now.entries))) }
     ensures stopped { IfErr result (λ fault. (handed : ℕ)

@@ -13,10 +13,12 @@ pub type BatchList = Items<Batch>;
 
 /// Makes these changes in order. After `NoMemory` some first ones of them are made.
 pub fn replay<S: Sorted>(alloc: Global, table: &mut S, batches: &BatchList) -> Result<(), NoMemory>
-    requires { All (λ batch. IsTrue (are_distinct (batch.removes ++ map key_of batch.puts))) batches.now }
+    requires { All (λ batch. IsTrue
+        (are_distinct (batch.removes ++ map key_of batch.puts))) batches.now }
     ensures ok { OnOk result ((key : List ℕ) → at_key key (S.rows table.new)
         ≡ replayed_at key batches.now (at_key key (S.rows table.old))) }
-    ensures err { OnErr result ((made : ℕ) × (made ≤ length batches.now) × ((key : List ℕ) → at_key key (S.rows table.new)
+    ensures err { OnErr result ((made : ℕ) × (made ≤ length batches.now)
+        × ((key : List ℕ) → at_key key (S.rows table.new)
         ≡ replayed_at key (take made batches.now) (at_key key (S.rows table.old)))) }
 {
     for batch in batches.as_slice() {

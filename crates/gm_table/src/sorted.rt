@@ -27,8 +27,8 @@ pub trait Sorted {
         ensures tally { Self.Tally.number tally.new
             ≡ capped_sum (Self.Tally.number tally.old) (if is_some result then 1 else 0) };
 
-    /// Hands out the rows with low <= key < high, in order, one call of `row` each. `NoMemory` is the
-    /// answer exactly where a call of `row` answered so: that call was the last.
+    /// Hands out the rows with low <= key < high, in order, one call of `row` each. `NoMemory` is
+    /// the answer exactly where a call of `row` answered so: that call was the last.
     fn scan<V: Visit>(
         &self,
         alloc: Global,
@@ -37,12 +37,16 @@ pub trait Sorted {
         visit: &mut V,
         tally: &mut Self::Tally,
     ) -> Result<(), NoMemory>
-        requires { All (λ row. V.admits visit.old row.0 row.1) (between low.now high.now (rows self.now)) }
-        ensures handed { OnOk result (Handed V.takes visit.old (between low.now high.now (rows self.now)) visit.new) }
+        requires { All (λ row. V.admits visit.old row.0 row.1)
+            (between low.now high.now (rows self.now)) }
+        ensures handed { OnOk result
+            (Handed V.takes visit.old (between low.now high.now (rows self.now)) visit.new) }
         ensures tally { OnOk result (Self.Tally.number tally.new
-            ≡ capped_sum (Self.Tally.number tally.old) (length (between low.now high.now (rows self.now)))) }
+            ≡ capped_sum (Self.Tally.number tally.old)
+            (length (between low.now high.now (rows self.now)))) }
         ensures stopped { IfErr result (λ fault. (handed : ℕ)
-            × Stops V.takes visit.old (between low.now high.now (rows self.now)) fault visit.new handed
+            × Stops V.takes visit.old
+            (between low.now high.now (rows self.now)) fault visit.new handed
             × (Self.Tally.number tally.new ≡ capped_sum (Self.Tally.number tally.old) handed)) }
     {
         self.scan_between(alloc, low.as_slice(), high.as_slice(), visit, tally)
@@ -57,17 +61,21 @@ pub trait Sorted {
         visit: &mut V,
         tally: &mut Self::Tally,
     ) -> Result<(), NoMemory>
-        requires { All (λ row. V.admits visit.old row.0 row.1) (between low.now high.now (rows self.now)) }
-        ensures handed { OnOk result (Handed V.takes visit.old (between low.now high.now (rows self.now)) visit.new) }
+        requires { All (λ row. V.admits visit.old row.0 row.1)
+            (between low.now high.now (rows self.now)) }
+        ensures handed { OnOk result
+            (Handed V.takes visit.old (between low.now high.now (rows self.now)) visit.new) }
         ensures tally { OnOk result (Self.Tally.number tally.new
-            ≡ capped_sum (Self.Tally.number tally.old) (length (between low.now high.now (rows self.now)))) }
+            ≡ capped_sum (Self.Tally.number tally.old)
+            (length (between low.now high.now (rows self.now)))) }
         ensures stopped { IfErr result (λ fault. (handed : ℕ)
-            × Stops V.takes visit.old (between low.now high.now (rows self.now)) fault visit.new handed
+            × Stops V.takes visit.old
+            (between low.now high.now (rows self.now)) fault visit.new handed
             × (Self.Tally.number tally.new ≡ capped_sum (Self.Tally.number tally.old) handed)) };
 
-    /// Hands out the rows of each span in this part of the list in turn, as calls of `scan` for one span
-    /// after the other would. The spans may be in any order, overlap or be empty. `NoMemory` is the
-    /// answer exactly where a call of `row` answered so: that call was the last.
+    /// Hands out the rows of each span in this part of the list in turn, as calls of `scan` for one
+    /// span after the other would. The spans may be in any order, overlap or be empty. `NoMemory`
+    /// is the answer exactly where a call of `row` answered so: that call was the last.
     fn scan_spans<V: Visit>(
         &self,
         alloc: Global,
@@ -81,10 +89,12 @@ pub trait Sorted {
             (rows_in (slice_range spans.now part.start part.end) (rows self.now)) }
         ensures handed { OnOk result (Handed V.takes visit.old
             (rows_in (slice_range spans.now part.start part.end) (rows self.now)) visit.new) }
-        ensures tally { OnOk result (Self.Tally.number tally.new ≡ capped_sum (Self.Tally.number tally.old)
+        ensures tally { OnOk result (Self.Tally.number tally.new
+            ≡ capped_sum (Self.Tally.number tally.old)
             (length (rows_in (slice_range spans.now part.start part.end) (rows self.now)))) }
         ensures stopped { IfErr result (λ fault. (handed : ℕ)
-            × Stops V.takes visit.old (rows_in (slice_range spans.now part.start part.end) (rows self.now))
+            × Stops V.takes visit.old
+            (rows_in (slice_range spans.now part.start part.end) (rows self.now))
             fault visit.new handed
             × (Self.Tally.number tally.new ≡ capped_sum (Self.Tally.number tally.old) handed)) }
     {
@@ -95,8 +105,8 @@ pub trait Sorted {
         Ok(())
     }
 
-    /// Makes a change, whole or not at all: after `NoMemory` the table is as before. A batch that puts
-    /// nothing takes no memory.
+    /// Makes a change, whole or not at all: after `NoMemory` the table is as before. A batch that
+    /// puts nothing takes no memory.
     fn apply(&mut self, alloc: Global, batch: &Batch) -> Result<(), NoMemory>
         requires { IsTrue (are_distinct (batch.now.removes ++ map key_of batch.now.puts)) }
         ensures ok { OnOk result ((key : List ℕ) → at_key key (rows self.new)

@@ -10,7 +10,8 @@ pub trait Visit {
     /// Whether the row of this key and these bytes may be handed to this visitor.
     ghost admits: { Self → List ℕ → List ℕ → Type 0 };
 
-    /// What a call does: the visitor before it, the key, the bytes, the answer, the visitor after it.
+    /// What a call does: the visitor before it, the key, the bytes, the answer, the visitor after
+    /// it.
     ghost takes: { Self → List ℕ → List ℕ → Result ⊤ NoMemory → Self → Type 0 };
 
     /// Takes a row. Where it answers `NoMemory`, the scan stops.
@@ -19,7 +20,8 @@ pub trait Visit {
         ensures { takes self.old key.now bytes.now result self.new };
 
     /// A row that may be handed to the visitor before a call may be handed to it after the call.
-    ghost keeps: { (before after : Self) (taken_key taken_bytes key bytes : List ℕ) (answer : Result ⊤ NoMemory) →
+    ghost keeps: { (before after : Self) (taken_key taken_bytes key bytes : List ℕ)
+        (answer : Result ⊤ NoMemory) →
         admits before taken_key taken_bytes → takes before taken_key taken_bytes answer after →
         admits before key bytes → admits after key bytes };
 }

@@ -12,8 +12,8 @@ pub struct AttributeOption {
 /// The options of an attribute, in the order given.
 pub type OptionList = Items<AttributeOption>;
 
-/// An attribute: its name and kind, whether it is asked to be indexed and is no geometry, whether its
-/// values are said to be of high cardinality, and its options, from which the two come.
+/// An attribute: its name and kind, whether it is asked to be indexed and is no geometry, whether
+/// its values are said to be of high cardinality, and its options, from which the two come.
 #[derive(Debug, Drop)]
 pub struct Attribute {
     pub name: Text,

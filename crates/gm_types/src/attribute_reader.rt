@@ -193,7 +193,8 @@ fn full_attribute(
     kind: &[u8],
     options: &[u8],
 ) -> Result<Attribute, Halt>
-    ensures { Reads (spec.attribute_typed name.now (spec.kind_named kind.now) (Some options.now)) result }
+    ensures { Reads (spec.attribute_typed name.now (spec.kind_named kind.now)
+        (Some options.now)) result }
 {
     match kind_named(kind) {
         None => Err(Halt::Broken),

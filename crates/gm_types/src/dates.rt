@@ -19,7 +19,8 @@ fn is_date(kind: Kind) -> bool
 
 /// The place of the attribute with a name.
 pub(crate) fn place_named(attributes: &[Attribute], name: &[u8]) -> Option<usize>
-    ensures value { result ≡ position (λ attribute. same_text attribute.name name.now) attributes.now }
+    ensures value { result ≡ position
+        (λ attribute. same_text attribute.name name.now) attributes.now }
     ensures within { IfSome result (λ place. place < length attributes.now) }
 {
     attributes
@@ -36,7 +37,8 @@ fn first_date(attributes: &[Attribute]) -> Option<usize>
 }
 
 fn is_date_at(attributes: &[Attribute], place: usize) -> bool
-    ensures { result ≡ is_date_kind (slice_get (map (λ attribute. attribute.kind) attributes.now) place) }
+    ensures { result ≡ is_date_kind
+        (slice_get (map (λ attribute. attribute.kind) attributes.now) place) }
 {
     match attributes.get(place) {
         Some(attribute) => is_date(attribute.kind),

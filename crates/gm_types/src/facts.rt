@@ -100,7 +100,8 @@ fn sizes_of(outline: &Outline) -> Option<Sizes>
 
 // Whether an index that fits, or not, is enabled.
 fn is_enabled(fits: bool, list: Option<&[u8]>, word: &[u8]) -> bool
-    ensures { result ≡ (fits && option_map_or (index.is_member word.now) (option_copied list.entry) true) }
+    ensures { result ≡ (fits && option_map_or (index.is_member word.now)
+        (option_copied list.entry) true) }
 {
     fits && is_listed(list, word)
 }

@@ -161,11 +161,12 @@ impl FeatureType {
         self.facts.sizes.precision
     }
 
-    /// The enabled index with a name: `id`, `z2`, `z3`, `xz2`, `xz3`, or `attr:` and the name of the
-    /// attribute.
+    /// The enabled index with a name: `id`, `z2`, `z3`, `xz2`, `xz3`, or `attr:` and the name of
+    /// the attribute.
     pub fn index_named(&self, name: &[u8]) -> Option<IndexKind>
         ensures value { result ≡ index_of_name self.now name.now }
-        ensures named { IfSome result (λ kind. (has_index self.now kind ≡ true) × (index_name self.now kind ≡ name.now)) }
+        ensures named { IfSome result (λ kind. (has_index self.now kind ≡ true)
+            × (index_name self.now kind ≡ name.now)) }
         ensures none { IfNone result ((kind : IndexKind) → has_index self.now kind ≡ true
             → index_name self.now kind ≡ name.now → ⊥) }
     {

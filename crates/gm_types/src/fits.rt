@@ -26,7 +26,8 @@ pub(crate) struct Fits {
 }
 
 fn shape_at(attributes: &[Attribute], place: usize) -> Option<GeoKind>
-    ensures { result ≡ option_and_then kinds.shape_of (slice_get (map (λ attribute. attribute.kind) attributes.now) place) }
+    ensures { result ≡ option_and_then kinds.shape_of
+        (slice_get (map (λ attribute. attribute.kind) attributes.now) place) }
 {
     match attributes.get(place) {
         Some(attribute) => match attribute.kind {
@@ -106,7 +107,8 @@ fn words_fit(fits: Fits, list: &[u8]) -> bool
 
 /// The same of a list, where there is one.
 pub(crate) fn words_are_fit(fits: Fits, list: Option<&[u8]>) -> bool
-    ensures { result ≡ is_met (λ list. list_all (word_fits fits) (parts_of 44 list)) (option_copied list.entry) }
+    ensures { result ≡ is_met (λ list. list_all (word_fits fits) (parts_of 44 list))
+        (option_copied list.entry) }
 {
     match list {
         None => true,

@@ -20,7 +20,8 @@ fn add_enabled(list: &mut IndexList, of: &FeatureType, kind: IndexKind) -> Resul
 
 fn add_attributes(list: &mut IndexList, of: &FeatureType) -> Result<(), NoMemory>
     ensures { OnOk result (list.new
-        ≡ list.old ++ filter (spec.has_index of.now) (spec.attribute_indexes 0 (length of.now.attributes))) }
+        ≡ list.old ++ filter (spec.has_index of.now)
+        (spec.attribute_indexes 0 (length of.now.attributes))) }
 {
     let count = of.attributes().len();
     for number in 0..count {
@@ -48,7 +49,8 @@ fn attribute_index_name(
     attributes: &[Attribute],
     number: u16,
 ) -> Result<Text, NoMemory>
-    ensures { IfOk result (λ name. name ≡ spec.attribute_index_name (slice_get attributes.now number)) }
+    ensures { IfOk result (λ name. name
+        ≡ spec.attribute_index_name (slice_get attributes.now number)) }
 {
     let mut name = String::from_str(alloc, "attr:")?;
     if let Some(attribute) = attributes.get(usize::from(number)) {

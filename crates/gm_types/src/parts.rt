@@ -25,7 +25,8 @@ fn part_len(text: &[u8], mark: u8) -> usize
 pub(crate) fn cut_once(text: &[u8], mark: u8) -> Option<(&[u8], &[u8])>
     ensures cut { MatchOption result (spec.cut_once mark text.now ≡ None)
         (λ parts. spec.cut_once mark text.now ≡ Some (parts.0.now, parts.1.now)) }
-    ensures shorter { MatchOption result (Unit {0}) (λ parts. length parts.1.now < length text.now) }
+    ensures shorter { MatchOption result (Unit {0})
+        (λ parts. length parts.1.now < length text.now) }
 {
     let len = part_len(text, mark);
     if len == text.len() {

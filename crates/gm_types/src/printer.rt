@@ -39,7 +39,8 @@ fn kind_name(kind: Kind) -> &'static str
 }
 
 fn append_option(out: &mut String, option: &AttributeOption) -> Result<(), NoMemory>
-    ensures { OnOk result (string_bytes out.new ≡ string_bytes out.old ++ (58 ∷ spec.pair_text option.now)) }
+    ensures { OnOk result (string_bytes out.new
+        ≡ string_bytes out.old ++ (58 ∷ spec.pair_text option.now)) }
 {
     out.push_str(":")?;
     out.push_str(option.key.as_str())?;
@@ -49,7 +50,8 @@ fn append_option(out: &mut String, option: &AttributeOption) -> Result<(), NoMem
 }
 
 fn append_options(out: &mut String, options: &[AttributeOption]) -> Result<(), NoMemory>
-    ensures { OnOk result (string_bytes out.new ≡ string_bytes out.old ++ spec.options_text options.now) }
+    ensures { OnOk result (string_bytes out.new
+        ≡ string_bytes out.old ++ spec.options_text options.now) }
 {
     for option in options {
         append_option(out, option)?;
@@ -67,7 +69,8 @@ fn append_star(out: &mut String, star: bool) -> Result<(), NoMemory>
 }
 
 fn append_attribute(out: &mut String, star: bool, attribute: &Attribute) -> Result<(), NoMemory>
-    ensures { OnOk result (string_bytes out.new ≡ string_bytes out.old ++ spec.starred_text star attribute.now) }
+    ensures { OnOk result (string_bytes out.new
+        ≡ string_bytes out.old ++ spec.starred_text star attribute.now) }
 {
     append_star(out, star)?;
     out.push_str(attribute.name.as_str())?;
@@ -101,7 +104,8 @@ fn append_attributes(
     attributes: &[Attribute],
 ) -> Result<(), NoMemory>
     ensures { OnOk result (string_bytes out.new ≡ string_bytes out.old
-        ++ spec.separated 0 (map spec.written_attribute (spec.canonical_attributes geometry 0 attributes.now))) }
+        ++ spec.separated 0 (map spec.written_attribute
+        (spec.canonical_attributes geometry 0 attributes.now))) }
 {
     for (place, attribute) in attributes.iter().enumerate() {
         append_comma(out, place)?;
@@ -111,7 +115,8 @@ fn append_attributes(
 }
 
 fn append_value(out: &mut String, value: &Text) -> Result<(), NoMemory>
-    ensures { OnOk result (string_bytes out.new ≡ string_bytes out.old ++ spec.value_text (spec.needs_quotes value.now) value.now) }
+    ensures { OnOk result (string_bytes out.new
+        ≡ string_bytes out.old ++ spec.value_text (spec.needs_quotes value.now) value.now) }
 {
     if is_bare_form(value.as_bytes()) {
         out.push_str(value.as_str())?;
@@ -124,7 +129,8 @@ fn append_value(out: &mut String, value: &Text) -> Result<(), NoMemory>
 }
 
 fn append_datum(out: &mut String, datum: &Datum) -> Result<(), NoMemory>
-    ensures { OnOk result (string_bytes out.new ≡ string_bytes out.old ++ spec.datum_text (spec.needs_quotes datum.now.value) datum.now) }
+    ensures { OnOk result (string_bytes out.new
+        ≡ string_bytes out.old ++ spec.datum_text (spec.needs_quotes datum.now.value) datum.now) }
 {
     out.push_str(datum.key.as_str())?;
     out.push_str("=")?;
@@ -155,15 +161,16 @@ fn append_data_part(out: &mut String, list: &[Datum]) -> Result<(), NoMemory>
 }
 
 fn append_outline(out: &mut String, outline: &Outline) -> Result<(), NoMemory>
-    ensures { OnOk result (string_bytes out.new ≡ string_bytes out.old ++ spec.canonical_text (outlined outline.now)) }
+    ensures { OnOk result (string_bytes out.new
+        ≡ string_bytes out.old ++ spec.canonical_text (outlined outline.now)) }
 {
     append_attributes(out, outline.geometry, outline.attributes.as_slice())?;
     append_data_part(out, outline.user_data.as_slice())?;
     Ok(())
 }
 
-/// The canonical text of a type's specification: `*` before the default geometry alone, no blanks, and
-/// quotes round values of user data alone that need them.
+/// The canonical text of a type's specification: `*` before the default geometry alone, no blanks,
+/// and quotes round values of user data alone that need them.
 pub fn print_spec(alloc: Global, of: &FeatureType) -> Result<Text, NoMemory>
     ensures { IfOk result (λ text. text ≡ spec.canonical_text of.now) }
 {

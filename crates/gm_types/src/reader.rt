@@ -82,7 +82,8 @@ fn starred_outline(
     user_data: DataList,
 ) -> Result<Outline, Halt>
     requires { is_name name.now ≡ true }
-    ensures { OutlineReads (spec.outline_with name.now number stars.now (Some attributes) (Some user_data)) result }
+    ensures { OutlineReads (spec.outline_with name.now number stars.now (Some attributes)
+        (Some user_data)) result }
 {
     if !stars_fit(stars, attributes.as_slice()) {
         return Err(Halt::Broken);
@@ -108,7 +109,8 @@ fn outline_with(
     user_data: DataList,
 ) -> Result<Outline, Halt>
     requires { is_name name.now ≡ true }
-    ensures { OutlineReads (spec.outline_with name.now number (spec.stars_of text.now) (spec.attributes_of text.now) (Some user_data)) result }
+    ensures { OutlineReads (spec.outline_with name.now number (spec.stars_of text.now)
+        (spec.attributes_of text.now) (Some user_data)) result }
 {
     match read_attributes(alloc, text) {
         Err(halt) => Err(halt),
@@ -138,7 +140,8 @@ fn read_outline(alloc: Global, name: &[u8], number: u16, text: &[u8]) -> Result<
 // Whether the names of attributes and the keys of user data stand once each.
 fn is_distinct(alloc: Global, outline: &Outline) -> Result<bool, NoMemory>
     ensures { IfOk result (λ distinct. distinct
-        ≡ (are_distinct (names_of (outlined outline.now)) && are_distinct (datum_keys outline.now.user_data))) }
+        ≡ (are_distinct (names_of (outlined outline.now))
+        && are_distinct (datum_keys outline.now.user_data))) }
 {
     if !have_distinct_names(alloc, outline.attributes.as_slice())? {
         return Ok(false);
@@ -175,8 +178,8 @@ fn checked(alloc: Global, outline: Outline) -> Result<FeatureType, SpecFault>
     }
 }
 
-/// The type that a specification gives to a name and a number. `docs/SPECIFICATIONS.md` has the rules
-/// of specifications. A name is a letter or `_`, and up to 63 letters, digits or `_`.
+/// The type that a specification gives to a name and a number. `docs/SPECIFICATIONS.md` has the
+/// rules of specifications. A name is a letter or `_`, and up to 63 letters, digits or `_`.
 pub fn read_spec(
     alloc: Global,
     name: &[u8],

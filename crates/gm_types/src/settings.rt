@@ -145,7 +145,8 @@ fn period_named(text: &[u8]) -> Option<Period>
 
 /// The setting of a period: None where it has another value than those listed.
 pub(crate) fn period(outline: &Outline) -> Option<Period>
-    ensures { IsSetting spec.period_from (spec.setting_of (outlined outline.now) (codes "geomesa.z3.interval")) Week result }
+    ensures { IsSetting spec.period_from
+        (spec.setting_of (outlined outline.now) (codes "geomesa.z3.interval")) Week result }
 {
     match setting(outline, b"geomesa.z3.interval") {
         None => Some(Period::Week),
@@ -154,7 +155,8 @@ pub(crate) fn period(outline: &Outline) -> Option<Period>
 }
 
 pub(crate) fn shards(outline: &Outline) -> Option<u8>
-    ensures { IsSetting (spec.number_that spec.is_shard_count) (spec.setting_of (outlined outline.now) (codes "geomesa.z.splits")) 4 result }
+    ensures { IsSetting (spec.number_that spec.is_shard_count)
+        (spec.setting_of (outlined outline.now) (codes "geomesa.z.splits")) 4 result }
 {
     match setting(outline, b"geomesa.z.splits") {
         None => Some(4),
@@ -163,7 +165,8 @@ pub(crate) fn shards(outline: &Outline) -> Option<u8>
 }
 
 pub(crate) fn precision(outline: &Outline) -> Option<u32>
-    ensures { IsSetting (spec.number_that spec.is_precision) (spec.setting_of (outlined outline.now) (codes "geomesa.xz.precision")) 12 result }
+    ensures { IsSetting (spec.number_that spec.is_precision)
+        (spec.setting_of (outlined outline.now) (codes "geomesa.xz.precision")) 12 result }
 {
     match setting(outline, b"geomesa.xz.precision") {
         None => Some(12),
@@ -172,7 +175,8 @@ pub(crate) fn precision(outline: &Outline) -> Option<u32>
 }
 
 pub(crate) fn z2_bits(outline: &Outline) -> Option<u32>
-    ensures { IsSetting (spec.number_that spec.is_z2_width) (spec.setting_of (outlined outline.now) (codes "gm.z2.bits")) 31 result }
+    ensures { IsSetting (spec.number_that spec.is_z2_width)
+        (spec.setting_of (outlined outline.now) (codes "gm.z2.bits")) 31 result }
 {
     match setting(outline, b"gm.z2.bits") {
         None => Some(31),
@@ -181,7 +185,8 @@ pub(crate) fn z2_bits(outline: &Outline) -> Option<u32>
 }
 
 pub(crate) fn z3_bits(outline: &Outline) -> Option<u32>
-    ensures { IsSetting (spec.number_that spec.is_z3_width) (spec.setting_of (outlined outline.now) (codes "gm.z3.bits")) 21 result }
+    ensures { IsSetting (spec.number_that spec.is_z3_width)
+        (spec.setting_of (outlined outline.now) (codes "gm.z3.bits")) 21 result }
 {
     match setting(outline, b"gm.z3.bits") {
         None => Some(21),
