@@ -7,6 +7,7 @@ pub mod Noted
 pub mod Outlined
 pub mod Printed
 pub mod ReadParts
+pub mod ReadSpelled
 pub mod DateSettings
 pub mod EnabledIndexes
 pub mod ListedValues

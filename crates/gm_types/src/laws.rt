@@ -48,3 +48,12 @@ pub fn spelled_types_are_read()
         → t.name ≡ u.name
         → t.number ≡ u.number → t ≡ u }
 {}
+
+/// The law of reading, for proofs: what a text is read as has the name and the number that were
+/// given, and the text spells it. It does nothing.
+pub fn read_types_are_spelled()
+    ensures spells { (name : List ℕ) (number : ℕ) (text : List ℕ) (t : Specification)
+        → specification_of name number text ≡ Some t → Spells text t }
+    ensures named { (name : List ℕ) (number : ℕ) (text : List ℕ) (t : Specification)
+        → specification_of name number text ≡ Some t → (t.name ≡ name) × (t.number ≡ number) }
+{}

@@ -36,9 +36,11 @@ pub use index::IndexKind;
 pub use indexes::{IndexList, enabled_indexes, index_name};
 pub use kind::{GeoKind, Kind};
 pub use laws::{
-    canonical_texts_read_back, read_types_are_valid, spelled_types_are_read, types_hold_together,
+    canonical_texts_read_back, read_types_are_spelled, read_types_are_valid,
+    spelled_types_are_read, types_hold_together,
 };
 pub use printer::print_spec;
 pub use reader::{ATTRIBUTE_LIMIT, read_spec};
 pub use sameness::is_same;
 pub use type_list::TypeList;
+pub use words::is_name;

@@ -72,11 +72,12 @@ fn continue_name(bytes: &[u8]) -> bool
     bytes.len() <= 63 && continue_names(bytes)
 }
 
+/// Whether bytes are a name: a letter or `_`, and at most 63 letters, digits and `_` behind it.
 #[tactic(auto, unfolding(crate::specs::Words::is_name))]
-fn is_name(bytes: &[u8]) -> bool
-    ensures { result ≡ spec.is_name bytes.now }
+pub fn is_name(name: &[u8]) -> bool
+    ensures { result ≡ spec.is_name name.now }
 {
-    match bytes.split_first() {
+    match name.split_first() {
         Some((first, rest)) => begins_name(*first) && continue_name(rest),
         None => false,
     }
