@@ -107,11 +107,11 @@ put_at-puts key (k ∷ news) bytes before =
     either false b = refl
 
 -- what a change makes of a key that had `before`
-abbrev made_at : Specification → Option Feature → Option Feature → List ℕ → Option (List ℕ) → Option (List ℕ)
+abbrev pub made_at : Specification → Option Feature → Option Feature → List ℕ → Option (List ℕ) → Option (List ℕ)
 made_at t old None key before = if has_key key (keys_at t old) then None else before
 made_at t old (Some f) key before = if has_key key (keys_of t f) then Some (feature_bytes f) else (if has_key key (keys_at t old) then None else before)
 
-made_is : (t : Specification) (old new : Option Feature) (key : List ℕ) (before : Option (List ℕ))
+pub made_is : (t : Specification) (old new : Option Feature) (key : List ℕ) (before : Option (List ℕ))
     → applied_at key (removes_of t old new) (puts_of t new) before ≡ made_at t old new key before
 made_is t old None key before =
     ap (λ b. if b then None else before) (has_key-removes key (keys_at t old) [] ∙ and_true (has_key key (keys_at t old)))
@@ -139,7 +139,7 @@ same_if None p there back = none_if p (λ x is. none_some x (back x is))
 same_if (Some x) p there back = sym (there x refl)
 
 -- the row that a feature has at one of its keys
-its_row : (s : State) (n : ℕ) (t : Specification) (id : List ℕ) (f : Feature) (key : List ℕ) → type_at n s ≡ Some t → feature_at n id s ≡ Some f → In key (keys_of t f) → IsRow s key (feature_bytes f)
+pub its_row : (s : State) (n : ℕ) (t : Specification) (id : List ℕ) (f : Feature) (key : List ℕ) → type_at n s ≡ Some t → feature_at n id s ≡ Some f → In key (keys_of t f) → IsRow s key (feature_bytes f)
 its_row s n t id f key typed held member =
     let at = key_out t f key member in
     record { number = n; specification = t; id = id; feature = f; index = at.0; typed = typed; held = held; enabled = at.1; keyed = at.2; same = refl }
@@ -171,17 +171,17 @@ other_row s s' n id key bytes types unchanged r apart = record {
 }
 
 -- both states, and what is between them
-record Step (s s' : State) (n : ℕ) (t : Specification) (id : List ℕ) (new : Option Feature) : Type 0 where
-  state : IsState s
-  state' : IsState s'
-  types : types_of s' ≡ types_of s
-  typed : type_at n s ≡ Some t
-  typed' : type_at n s' ≡ Some t
-  now : feature_at n id s' ≡ new
-  unchanged : (m : ℕ) (i : List ℕ) → ((m ≡ n) × (i ≡ id) → ⊥) → feature_at m i s' ≡ feature_at m i s
+pub record Step (s s' : State) (n : ℕ) (t : Specification) (id : List ℕ) (new : Option Feature) : Type 0 where
+  pub state : IsState s
+  pub state' : IsState s'
+  pub types : types_of s' ≡ types_of s
+  pub typed : type_at n s ≡ Some t
+  pub typed' : type_at n s' ≡ Some t
+  pub now : feature_at n id s' ≡ new
+  pub unchanged : (m : ℕ) (i : List ℕ) → ((m ≡ n) × (i ≡ id) → ⊥) → feature_at m i s' ≡ feature_at m i s
 
 -- a key of the old feature alone has no row afterwards
-gone : Keys → Entries → (s s' : State) (n : ℕ) (t : Specification) (id : List ℕ) (new : Option Feature) (key : List ℕ) → Step s s' n t id new
+pub gone : Keys → Entries → (s s' : State) (n : ℕ) (t : Specification) (id : List ℕ) (new : Option Feature) (key : List ℕ) → Step s s' n t id new
     → has_key key (keys_at t (feature_at n id s)) ≡ true → has_key key (keys_at t new) ≡ false → None ≡ at_key key (rows_of s')
 unfolding its_row
 gone keys entries s s' n t id new key step old isnt = by (feature_at n id s) refl old

@@ -22,14 +22,14 @@ false_or : (b : Bool) → (b ≡ true → ⊥) → b ≡ false
 false_or true never = absurd (never refl)
 false_or false never = refl
 
-both_so : (a b : Bool) → (a && b) ≡ true → (a ≡ true) × (b ≡ true)
+pub both_so : (a b : Bool) → (a && b) ≡ true → (a ≡ true) × (b ≡ true)
 both_so true b h = (refl, h)
 both_so false b h = cc
 
 both_true : (a b : Bool) → a ≡ true → b ≡ true → (a && b) ≡ true
 both_true a b is is' = ap (λ t. t && b) is ∙ is'
 
-not_true : (b : Bool) → not b ≡ true → b ≡ false
+pub not_true : (b : Bool) → not b ≡ true → b ≡ false
 not_true true is = cc
 not_true false is = refl
 
@@ -155,7 +155,7 @@ keys_of_rows : (keys : List (List ℕ)) (bytes : List ℕ) → map key_of_row (r
 keys_of_rows [] bytes = refl
 keys_of_rows (k ∷ keys) bytes = ap (λ rest. k ∷ rest) (keys_of_rows keys bytes)
 
-some_keys_distinct : Keys → (t : Specification) (o : Option Feature) → IsType t → ForSome o (Fits t) → are_distinct (keys_at t o) ≡ true
+pub some_keys_distinct : Keys → (t : Specification) (o : Option Feature) → IsType t → ForSome o (Fits t) → are_distinct (keys_at t o) ≡ true
 some_keys_distinct keys t None typed fits = refl
 some_keys_distinct keys t (Some f) typed fits = keys_distinct keys t f typed (fits f refl)
 

@@ -2,3 +2,4 @@ pub mod Members
 pub mod RowLaws
 pub mod Changes
 pub mod Distinct
+pub mod Counts

@@ -1,6 +1,6 @@
 // Laws of the rows of a state, for proofs. Each is the contract of a function that does nothing but
 // call those that it rests on.
-ghost use Rattle.std.specs.Prelude.{◌≡◌, ◌++◌, ℕ, List, Option, Some, None, true, map, length, slice_get, IsTrue};
+ghost use Rattle.std.specs.Prelude.{◌≡◌, ◌+◌, ◌++◌, ℕ, List, Option, Some, None, true, map, length, slice_get, IsTrue};
 ghost use Rattle.std.specs.Option.{ForSome};
 ghost use Rattle.gm_table.specs.declared.row.Row.{Row};
 ghost use Rattle.gm_table.specs.Batch.{are_distinct, applied_at};
@@ -12,7 +12,7 @@ ghost use Rattle.gm_types.specs.Words.{are_distinct as are_apart};
 ghost use Rattle.gm_feature.specs.declared.feature.Feature.{Feature};
 ghost use Rattle.gm_engine_rows.specs.State.{State, IsState, IsHeld, types_of, type_at, feature_at, changed_in, with_type};
 ghost use Rattle.gm_engine_rows.specs.Rows.{rows_of, IsRow};
-ghost use Rattle.gm_engine_rows.specs.Change.{removes_of, puts_of};
+ghost use Rattle.gm_engine_rows.specs.Change.{keys_at, removes_of, puts_of};
 
 use gm_keys::keys_tell_features_apart;
 use gm_table::rows_of_a_map;
@@ -38,6 +38,19 @@ pub fn rows_follow_a_change()
         → applied_at key (removes_of t (feature_at n id s) new) (puts_of t new)
         (at_key key (rows_of s))
         ≡ at_key key (rows_of (changed_in n id new s)) }
+{
+    keys_tell_features_apart();
+    rows_of_a_map();
+}
+
+/// After such a change there are so many rows more as the new feature has keys, and so many less as
+/// the old one had.
+pub fn changes_are_counted()
+    ensures { (s : State) (n : ℕ) (t : Specification) (id : List ℕ) (new : Option Feature)
+        → IsState s
+        → type_at n s ≡ Some t → ForSome new (IsHeld t id)
+        → length (rows_of (changed_in n id new s)) + length (keys_at t (feature_at n id s))
+        ≡ length (rows_of s) + length (keys_at t new) }
 {
     keys_tell_features_apart();
     rows_of_a_map();

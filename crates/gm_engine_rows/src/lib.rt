@@ -7,5 +7,6 @@ mod laws;
 
 pub use change::batch_of;
 pub use laws::{
-    a_new_type_has_no_rows, changes_keep_the_state, rows_are_of_features, rows_follow_a_change,
+    a_new_type_has_no_rows, changes_are_counted, changes_keep_the_state, rows_are_of_features,
+    rows_follow_a_change,
 };
