@@ -18,7 +18,7 @@ use Rattle.gm_engine_rows.proofs.Members.{In, is_key, in_keys, has_in, kept_out}
 use Rattle.gm_engine_rows.proofs.RowLaws.{Keys}
 
 -- ---- lists of keys
-false_or : (b : Bool) → (b ≡ true → ⊥) → b ≡ false
+pub false_or : (b : Bool) → (b ≡ true → ⊥) → b ≡ false
 false_or true never = absurd (never refl)
 false_or false never = refl
 
@@ -38,7 +38,7 @@ in_append x [] ys member = inr member
 in_append x (y ∷ xs) ys (inl same) = inl (inl same)
 in_append x (y ∷ xs) ys (inr later) = ⊎_elim (λ h. inl (inr h)) (λ h. inr h) (in_append x xs ys later)
 
-distinct_append : (xs ys : List (List ℕ)) → are_distinct xs ≡ true → are_distinct ys ≡ true → ((k : List ℕ) → In k xs → has_key k ys ≡ false) → are_distinct (xs ++ ys) ≡ true
+pub distinct_append : (xs ys : List (List ℕ)) → are_distinct xs ≡ true → are_distinct ys ≡ true → ((k : List ℕ) → In k xs → has_key k ys ≡ false) → are_distinct (xs ++ ys) ≡ true
 distinct_append [] ys one other apart = other
 distinct_append (x ∷ xs) ys one other apart =
     let parts = both_so _ _ one in
@@ -49,7 +49,7 @@ distinct_append (x ∷ xs) ys one other apart =
     (in_append x xs ys (in_keys x (xs ++ ys) has)))))
     (distinct_append xs ys parts.1 other (λ k member. apart k (inr member)))
 
-in_filter : (p : List ℕ → Bool) (xs : List (List ℕ)) (k : List ℕ) → In k (filter p xs) → (p k ≡ true) × In k xs
+pub in_filter : (p : List ℕ → Bool) (xs : List (List ℕ)) (k : List ℕ) → In k (filter p xs) → (p k ≡ true) × In k xs
 in_filter p [] k member = absurd member
 in_filter p (x ∷ xs) k member =
     elim (p x) as (λ t. p x ≡ t → In k (cond t (x ∷ filter p xs) (filter p xs)) → (p k ≡ true) × In k (x ∷ xs)) [
@@ -57,7 +57,7 @@ in_filter p (x ∷ xs) k member =
       | false ↦ λ _ later. let rest = in_filter p xs k later in (rest.0, inr rest.1)
     ] refl member
 
-distinct_filter : (p : List ℕ → Bool) (xs : List (List ℕ)) → are_distinct xs ≡ true → are_distinct (filter p xs) ≡ true
+pub distinct_filter : (p : List ℕ → Bool) (xs : List (List ℕ)) → are_distinct xs ≡ true → are_distinct (filter p xs) ≡ true
 distinct_filter p [] one = refl
 distinct_filter p (x ∷ xs) one =
     let parts = both_so _ _ one in
@@ -159,7 +159,7 @@ pub some_keys_distinct : Keys → (t : Specification) (o : Option Feature) → I
 some_keys_distinct keys t None typed fits = refl
 some_keys_distinct keys t (Some f) typed fits = keys_distinct keys t f typed (fits f refl)
 
-put_keys : (t : Specification) (new : Option Feature) → map key_of_row (puts_of t new) ≡ keys_at t new
+pub put_keys : (t : Specification) (new : Option Feature) → map key_of_row (puts_of t new) ≡ keys_at t new
 put_keys t None = refl
 put_keys t (Some f) = keys_of_rows (keys_of t f) _
 

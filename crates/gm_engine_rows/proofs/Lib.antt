@@ -3,3 +3,4 @@ pub mod RowLaws
 pub mod Changes
 pub mod Distinct
 pub mod Counts
+pub mod Exchanges

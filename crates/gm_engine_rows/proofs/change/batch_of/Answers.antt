@@ -1,9 +1,5 @@
-use Rattle.std.proofs.Common.{◌≡◌, List, ℕ, Option, Some, None, rules, ap, sym, ◌∙◌}
-use Rattle.std.proofs.lemmas.Grind.{common_steps}
-use Rattle.std.proofs.Common.{arith}
+use Rattle.std.proofs.Common.{◌≡◌, rules, ap, sym, ◌∙◌}
 use Rattle.std.specs.Option.{option_copied}
-use Rattle.gm_table.specs.declared.row.Row.{Row}
-use Rattle.gm_feature.specs.declared.feature.Feature.{Feature}
 use Rattle.gm_engine_rows.specs.Change.{keys_at, removes_of, puts_of}
 use Rattle.gm_engine_rows.proofs.Distinct.{distinct_as, all_go}
 use Rattle.gm_engine_rows.proofs.change.batch_of.Goals as goal
