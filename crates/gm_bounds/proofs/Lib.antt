@@ -1,0 +1,14 @@
+pub mod Extents
+pub mod IdBounds
+pub mod Risings
+pub mod InForms
+pub mod InOrder
+pub mod InRanges
+pub mod InSpace
+pub mod InTime
+pub mod InValues
+pub mod Keeping
+pub mod Keeps
+pub mod Members
+pub mod OneForms
+pub mod Sound

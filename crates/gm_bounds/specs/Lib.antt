@@ -1,0 +1,13 @@
+pub mod Applicability
+pub mod Bound
+pub mod Boxes
+pub mod ByteRange
+pub mod ByteRanges
+pub mod ClosedBox
+pub mod Found
+pub mod Identifiers
+pub mod Interval
+pub mod Intervals
+pub mod Kept
+pub mod Lists
+pub mod OneValue

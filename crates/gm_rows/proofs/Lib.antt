@@ -1,0 +1,11 @@
+mod Doubling
+mod KnownRows
+mod Numbers
+mod PlainRows
+mod Printed
+mod Pushing
+mod ReadFields
+mod RowLaws
+mod RowsFit
+mod Slices
+mod TextFields

@@ -1,0 +1,41 @@
+// Rows that are cut at their commas.
+ghost use Rattle.std.specs.Prelude.{◌≡◌, [], map, IfOk};
+ghost use Rattle.std.specs.List.{list_all};
+ghost use Rattle.gm_rows.specs.Reading as spec;
+
+use crate::printer::begins_with_mark;
+use gm_base::NoMemory;
+use std::alloc::Global;
+
+fn are_plain(row: &[u8]) -> bool
+    ensures { result ≡ list_all spec.is_plain_byte row.now }
+{
+    row.iter()
+        .all(|byte| *byte != b'"' && *byte != b'\r' && *byte != b'\n')
+}
+
+/// Whether a row has a byte, no double quote, 0x0D or 0x0A, and no U+FEFF at its head.
+pub(crate) fn is_plain(row: &[u8]) -> bool
+    ensures { result ≡ spec.is_plain row.now }
+{
+    let some = !row.is_empty();
+    let no_mark = !begins_with_mark(row);
+    some && no_mark && are_plain(row)
+}
+
+/// What stands between the commas.
+#[tactic(auto, unfolding(crate::specs::Reading::cut_from))]
+pub(crate) fn cut_row<'a>(alloc: Global, row: &'a [u8]) -> Result<Vec<&'a [u8]>, NoMemory>
+    ensures { IfOk result (λ fields. map (λ f. f.now) fields.items ≡ spec.cut_from [] [] row.now) }
+{
+    let mut fields = Vec::new(alloc);
+    let mut start = 0;
+    'bytes: for (place, byte) in row.iter().enumerate() {
+        if *byte == b',' {
+            fields.push(&row[start..place])?;
+            start = place + 1;
+        }
+    }
+    fields.push(&row[start..])?;
+    Ok(fields)
+}

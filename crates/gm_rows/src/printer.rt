@@ -1,0 +1,135 @@
+// Rows printed.
+ghost use Rattle.std.specs.Prelude.{◌≡◌, ◌∷◌, ◌++◌, map, Ok, IfOk};
+ghost use Rattle.std.specs.String.{string_bytes};
+ghost use Rattle.gm_feature.specs.Feature.{Fits};
+ghost use Rattle.gm_rows.specs.Lines.{AreOnOneLine};
+ghost use Rattle.gm_rows.specs.Reading.{row_of};
+ghost use Rattle.gm_rows.specs.Printing.{begins_with_mark, has_marked, is_quoted, doubled, printed, field_of, further, row_text, truth_text};
+
+use crate::printed_rows_are_read;
+use gm_base::{NoMemory, Text};
+use gm_calendar::print_instant;
+use gm_feature::{Feature, Value};
+use gm_types::FeatureType;
+use gm_wkt::print;
+use itoa::Buffer;
+use std::alloc::Global;
+
+/// The row of a feature, without a line end.
+pub fn print_row(alloc: Global, of: &FeatureType, feature: &Feature) -> Result<Text, NoMemory>
+    ensures text { IfOk result (λ text. text ≡ row_text feature.now) }
+    ensures reads_back { IfOk result (λ text. Fits of.now feature.now
+        → AreOnOneLine feature.now.values
+        → row_of of.now text ≡ Ok feature.now) }
+{
+    printed_rows_are_read();
+    let _number = of.number();
+    let mut row = String::new(alloc);
+    append_row(alloc, &mut row, feature)?;
+    Ok(Text::from_string(row))
+}
+
+/// Appends the row that `print_row` gives. Where memory runs out, part of it may be there.
+pub fn append_row(alloc: Global, into: &mut String, feature: &Feature) -> Result<(), NoMemory>
+    ensures { IfOk result (λ _. string_bytes into.new
+        ≡ string_bytes into.old ++ row_text feature.now) }
+{
+    push_field(into, feature.id.as_str())?;
+    push_values(alloc, into, feature.values.as_slice())
+}
+
+/// The field that `print_row` gives this value.
+pub fn print_field(alloc: Global, value: &Value) -> Result<Text, NoMemory>
+    ensures { IfOk result (λ text. text ≡ printed (field_of value.now)) }
+{
+    let mut field = String::new(alloc);
+    push_value(alloc, &mut field, value)?;
+    Ok(Text::from_string(field))
+}
+
+// Each value behind a comma.
+fn push_values(alloc: Global, row: &mut String, values: &[Value]) -> Result<(), NoMemory>
+    ensures { IfOk result (λ _. string_bytes row.new
+        ≡ string_bytes row.old ++ further (map field_of values.now)) }
+{
+    'values: for value in values {
+        row.push_str(",")?;
+        push_value(alloc, row, value)?;
+    }
+    Ok(())
+}
+
+fn truth_text(truth: bool) -> &'static str
+    ensures { result.now ≡ truth_text truth }
+{
+    if truth { "true" } else { "false" }
+}
+
+fn push_value(alloc: Global, row: &mut String, value: &Value) -> Result<(), NoMemory>
+    ensures { IfOk result (λ _. string_bytes row.new
+        ≡ string_bytes row.old ++ printed (field_of value.now)) }
+{
+    match value {
+        Value::Null => push_field(row, ""),
+        Value::Text(text) => push_field(row, text.as_str()),
+        Value::Integer(number) => push_field(row, Buffer::new().format(*number)),
+        Value::Long(number) => push_field(row, Buffer::new().format(*number)),
+        Value::Boolean(truth) => push_field(row, truth_text(*truth)),
+        Value::Date(at) => {
+            let text = print_instant(alloc, *at)?;
+            push_field(row, text.as_str())
+        }
+        Value::Geo(geometry) => {
+            let text = print(alloc, geometry)?;
+            push_field(row, text.as_str())
+        }
+    }
+}
+
+fn push_field(row: &mut String, field: &str) -> Result<(), NoMemory>
+    ensures { IfOk result (λ _. string_bytes row.new ≡ string_bytes row.old ++ printed field.now) }
+{
+    if needs_quotes(field.as_bytes()) {
+        row.push_str("\"")?;
+        push_doubled(row, field)?;
+        row.push_str("\"")?;
+    } else {
+        row.push_str(field)?;
+    }
+    Ok(())
+}
+
+// The text with each double quote twice.
+fn push_doubled(row: &mut String, text: &str) -> Result<(), NoMemory>
+    ensures { IfOk result (λ _. string_bytes row.new ≡ string_bytes row.old ++ doubled text.now) }
+{
+    let mut rest = text;
+    'quotes: while let Some((before, after)) = rest.split_once('"') {
+        row.push_str(before)?;
+        row.push_str("\"\"")?;
+        rest = after;
+    }
+    row.push_str(rest)?;
+    Ok(())
+}
+
+fn needs_quotes(field: &[u8]) -> bool
+    ensures { result ≡ is_quoted field.now }
+{
+    has_marked(field) || begins_with_mark(field)
+}
+
+fn has_marked(field: &[u8]) -> bool
+    ensures { result ≡ has_marked field.now }
+{
+    field
+        .iter()
+        .any(|byte| *byte == b',' || *byte == b'"' || *byte == b'\r')
+}
+
+// Whether U+FEFF stands first.
+pub(crate) fn begins_with_mark(field: &[u8]) -> bool
+    ensures { result ≡ begins_with_mark field.now }
+{
+    field.len() >= 3 && field[0] == 0xEF && field[1] == 0xBB && field[2] == 0xBF
+}

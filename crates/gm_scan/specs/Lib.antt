@@ -1,0 +1,6 @@
+pub mod Counted
+pub mod Found
+pub mod Held
+pub mod Ranges
+pub mod Test
+pub mod Trial
