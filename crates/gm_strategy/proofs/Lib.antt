@@ -1,0 +1,4 @@
+pub mod Branching
+pub mod Choosing
+pub mod Gathering
+pub mod Plans

@@ -1,0 +1,4 @@
+pub mod Branches
+pub mod Chosen
+pub mod Cost
+pub mod Plan
