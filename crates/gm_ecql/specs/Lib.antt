@@ -1,0 +1,16 @@
+pub mod Change
+pub mod Faults
+pub mod Geometry
+pub mod Grammar
+pub mod Halt
+pub mod Judging
+pub mod Limits
+pub mod Outcome
+pub mod Parsing
+pub mod Places
+pub mod Printing
+pub mod Reading
+pub mod Scanning
+pub mod Test
+pub mod Tokens
+pub mod Words

@@ -1,0 +1,99 @@
+// Kinds of bytes, and runs of them.
+ghost use Rattle.std.specs.Prelude.{◌≡◌, ◌≤◌, length};
+ghost use Rattle.std.specs.List.{prefix_len};
+ghost use Rattle.gm_calendar.specs.Spelling as calendar;
+ghost use Rattle.gm_ecql.specs.Tokens as spec;
+
+pub fn is_blank(byte: u8) -> bool
+    ensures { result ≡ spec.is_blank byte }
+{
+    byte == b' ' || byte == b'\t'
+}
+
+pub fn is_word_start(byte: u8) -> bool
+    ensures { result ≡ spec.is_word_start byte }
+{
+    byte.is_ascii_alphabetic() || byte == b'_'
+}
+
+pub fn is_word_byte(byte: u8) -> bool
+    ensures { result ≡ spec.is_word_byte byte }
+{
+    byte.is_ascii_alphanumeric() || byte == b'_'
+}
+
+pub fn is_sign(byte: u8) -> bool
+    ensures { result ≡ spec.is_sign byte }
+{
+    byte == b'+' || byte == b'-'
+}
+
+pub fn is_number_start(byte: u8) -> bool
+    ensures { result ≡ spec.is_number_start byte }
+{
+    let digit = byte.is_ascii_digit() || byte == b'.';
+    digit || is_sign(byte)
+}
+
+pub fn is_number_tail(byte: u8) -> bool
+    ensures { result ≡ spec.is_number_tail byte }
+{
+    is_word_byte(byte) || byte == b'.'
+}
+
+fn is_instant_byte(byte: u8) -> bool
+    ensures { result ≡ calendar.is_instant_byte byte }
+{
+    match byte {
+        b'+' | b'-' | b'.' | b':' | b'T' | b'Z' => true,
+        _ => byte.is_ascii_digit(),
+    }
+}
+
+pub fn blank_count(bytes: &[u8]) -> usize
+    ensures value { result ≡ prefix_len spec.is_blank bytes.now }
+    ensures within { result ≤ length bytes.now }
+{
+    'bytes: for (count, byte) in bytes.iter().enumerate() {
+        if !is_blank(*byte) {
+            return count;
+        }
+    }
+    bytes.len()
+}
+
+pub fn word_count(bytes: &[u8]) -> usize
+    ensures value { result ≡ prefix_len spec.is_word_byte bytes.now }
+    ensures within { result ≤ length bytes.now }
+{
+    'bytes: for (count, byte) in bytes.iter().enumerate() {
+        if !is_word_byte(*byte) {
+            return count;
+        }
+    }
+    bytes.len()
+}
+
+pub fn name_count(bytes: &[u8]) -> usize
+    ensures value { result ≡ prefix_len spec.is_no_double bytes.now }
+    ensures within { result ≤ length bytes.now }
+{
+    'bytes: for (count, byte) in bytes.iter().enumerate() {
+        if *byte == b'"' {
+            return count;
+        }
+    }
+    bytes.len()
+}
+
+pub fn instant_count(bytes: &[u8]) -> usize
+    ensures value { result ≡ prefix_len calendar.is_instant_byte bytes.now }
+    ensures within { result ≤ length bytes.now }
+{
+    'bytes: for (count, byte) in bytes.iter().enumerate() {
+        if !is_instant_byte(*byte) {
+            return count;
+        }
+    }
+    bytes.len()
+}
