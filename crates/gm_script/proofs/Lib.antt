@@ -1,0 +1,5 @@
+mod AskLines
+mod AskWords
+mod FormedLines
+mod LaidLines
+mod Targets

@@ -1,0 +1,12 @@
+pub mod Words
+pub mod Line
+pub mod Order
+pub mod Ask
+pub mod Bins
+pub mod Faults
+pub mod Reading
+pub mod Suits
+pub mod Laid
+pub mod Description
+pub mod Part
+pub mod Reply

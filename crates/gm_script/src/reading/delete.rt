@@ -1,0 +1,49 @@
+// `delete NAME ID`
+ghost use Rattle.std.specs.Prelude.{IfOk};
+ghost use Rattle.gm_script.specs.Order.{order_of};
+ghost use Rattle.gm_script.specs.Reading.{Reads, delete_at, delete_of};
+ghost use Rattle.gm_script.specs.Suits.{Suits, SuitsAt};
+
+use super::type_named;
+use crate::fault::refused;
+use crate::{Command, LineFault};
+use gm_base::{Code, FeatureId, IdFault};
+use gm_types::{FeatureType, TypeList, is_name};
+use std::alloc::Global;
+
+#[tactic(auto, unfolding(crate::specs::Reading::delete_of))]
+pub(crate) fn read_delete(
+    alloc: Global,
+    types: &TypeList,
+    name: &[u8],
+    id: &[u8],
+) -> Result<Command, LineFault>
+    ensures reads { Reads (delete_of types.now name.now id.now) result }
+    ensures suits { IfOk result (λ c. Suits types.now (order_of c)) }
+{
+    if !is_name(name) || id.is_empty() {
+        return Err(refused(Code::E04));
+    }
+    match type_named(types, name) {
+        Some((number, of)) => read_identifier(alloc, number, of, id),
+        None => Err(refused(Code::E06)),
+    }
+}
+
+// An identifier of a feature of the type with this number.
+fn read_identifier(
+    alloc: Global,
+    number: u16,
+    of: &FeatureType,
+    id: &[u8],
+) -> Result<Command, LineFault>
+    ensures reads { Reads (delete_at number id.now) result }
+    ensures suits { SuitsAt number of.now result }
+{
+    let _number = of.number();
+    match FeatureId::of(alloc, id) {
+        Ok(id) => Ok(Command::Delete(number, id)),
+        Err(IdFault::Form) => Err(refused(Code::E12)),
+        Err(IdFault::NoMemory) => Err(LineFault::NoMemory),
+    }
+}

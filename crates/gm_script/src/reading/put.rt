@@ -1,0 +1,49 @@
+// `put NAME ROW`
+ghost use Rattle.std.specs.Prelude.{IfOk};
+ghost use Rattle.gm_rows.specs.Reading.{row_of};
+ghost use Rattle.gm_script.specs.Order.{order_of};
+ghost use Rattle.gm_script.specs.Reading.{Reads, put_of, put_read};
+ghost use Rattle.gm_script.specs.Suits.{Suits, SuitsAt};
+
+use super::type_named;
+use crate::fault::{refused, row_fault};
+use crate::{Command, LineFault};
+use gm_base::Code;
+use gm_rows::read_row;
+use gm_types::{FeatureType, TypeList, is_name};
+use std::alloc::Global;
+
+#[tactic(auto, unfolding(crate::specs::Reading::put_of))]
+pub(crate) fn read_put(
+    alloc: Global,
+    types: &TypeList,
+    name: &[u8],
+    row: &[u8],
+) -> Result<Command, LineFault>
+    ensures reads { Reads (put_of types.now name.now row.now) result }
+    ensures suits { IfOk result (λ c. Suits types.now (order_of c)) }
+{
+    if !is_name(name) || row.is_empty() {
+        return Err(refused(Code::E04));
+    }
+    match type_named(types, name) {
+        Some((number, of)) => read_feature(alloc, number, of, row),
+        None => Err(refused(Code::E06)),
+    }
+}
+
+// A row of the type with this number.
+fn read_feature(
+    alloc: Global,
+    number: u16,
+    of: &FeatureType,
+    row: &[u8],
+) -> Result<Command, LineFault>
+    ensures reads { Reads (put_read number (row_of of.now row.now)) result }
+    ensures suits { SuitsAt number of.now result }
+{
+    match read_row(alloc, of, row) {
+        Ok(feature) => Ok(Command::Put(number, feature)),
+        Err(why) => Err(row_fault(why)),
+    }
+}

@@ -1,0 +1,48 @@
+// `remove NAME FILTER`
+ghost use Rattle.std.specs.Prelude.{IfOk};
+ghost use Rattle.gm_ecql.specs.Outcome.{filter_outcome};
+ghost use Rattle.gm_script.specs.Order.{order_of};
+ghost use Rattle.gm_script.specs.Reading.{Reads, remove_of, remove_read};
+ghost use Rattle.gm_script.specs.Suits.{Suits, SuitsAt};
+
+use super::type_named;
+use crate::fault::{filter_fault, refused};
+use crate::{Command, LineFault};
+use gm_base::Code;
+use gm_types::{FeatureType, TypeList, is_name};
+use std::alloc::Global;
+
+#[tactic(auto, unfolding(crate::specs::Reading::remove_of))]
+pub(crate) fn read_remove(
+    alloc: Global,
+    types: &TypeList,
+    name: &[u8],
+    text: &[u8],
+) -> Result<Command, LineFault>
+    ensures reads { Reads (remove_of types.now name.now text.now) result }
+    ensures suits { IfOk result (λ c. Suits types.now (order_of c)) }
+{
+    if !is_name(name) || text.is_empty() {
+        return Err(refused(Code::E04));
+    }
+    match type_named(types, name) {
+        Some((number, of)) => read_wanted(alloc, number, of, text),
+        None => Err(refused(Code::E06)),
+    }
+}
+
+// A filter of the type with this number.
+fn read_wanted(
+    alloc: Global,
+    number: u16,
+    of: &FeatureType,
+    text: &[u8],
+) -> Result<Command, LineFault>
+    ensures reads { Reads (remove_read number (filter_outcome of.now text.now)) result }
+    ensures suits { SuitsAt number of.now result }
+{
+    match gm_ecql::read(alloc, of, text) {
+        Ok(filter) => Ok(Command::Remove(number, filter)),
+        Err(why) => Err(filter_fault(why)),
+    }
+}
