@@ -14,6 +14,7 @@ use Rattle.std.specs.declared.cmp.Ordering.TheVariants.{Less, Equal, Greater}
 use Rattle.std.specs.Cmp.Lexicographic.{slice_cmp}
 use Rattle.std.proofs.lemmas.Cmp.{nat_list_cmp_total, tied_itself}
 use lib.Utf8.{scalar, scalars, scalar_cases, encode, encodes, next}
+use Rattle.gm_base.specs.Identifier.{is_identifier, has_identifier_form}
 use Rattle.gm_calendar.specs.Instant.{is_instant}
 use Rattle.gm_lexi.specs.Lexicode.{int_bytes, long_bytes, date_bytes, bool_bytes, text_bytes, HasNoZero}
 use Rattle.gm_types.specs.declared.kind.Kind.{Kind}
@@ -29,7 +30,7 @@ use Rattle.gm_filter.specs.Comparison.{compares, passes, passes_unordered}
 use Rattle.gm_filter.specs.Suits.{is_literal_of}
 use Rattle.gm_bounds.specs.ByteRanges.{form_of, literal_form, has_zero, is_zero}
 use Rattle.gm_bounds.proofs.InOrder.{Bytes, C}
-use Rattle.gm_bounds.proofs.InValues.{AreBytes, IsApart, same_bytes}
+use Rattle.gm_bounds.proofs.InValues.{AreBytes, IsApart, IsOrdered, same_bytes}
 
 -- what gm_lexi says of the forms
 pub record FormLaws : Type 0 where
@@ -83,6 +84,9 @@ encodes_small (c ∷ cs) h = let parts = and_parts (scalar c) (scalars cs) h in 
 utf8_small : (t : Bytes) → IsUtf8 t → AllByRecursion (λ byte. byte < 256) t
 utf8_small t u = subst (AllByRecursion (λ byte. byte < 256)) u.1.1 (encodes_small u.0 u.1.0)
 
+pub identifier_small : (id : Bytes) → is_identifier id ≡ true → AreBytes id
+identifier_small id h = All-from_recursion (λ byte. byte < 256) id (utf8_small id (IsUtf8-from_is_utf8 id (and_parts (is_utf8 id) (has_identifier_form id) h).0))
+
 pub text_bytes_small : (t : Bytes) → IsUtf8 t → AreBytes (text_bytes t)
 text_bytes_small t u = All-from_recursion (λ byte. byte < 256) (text_bytes t) (all-append (λ byte. byte < 256) t (0 ∷ []) (utf8_small t u) (omega arith, tt))
 
@@ -135,12 +139,13 @@ no_zero_in (b ∷ t) h = let parts = and_parts (is_no_zero b) (list_all is_no_ze
 
 -- ---- a value and a literal
 
--- how a value with a form that passes the comparison stands to the literal
+-- how a value with a form that passes the comparison stands to the literal, whatever follows its form
 pub record Formed (op : Op) (v : Value) (form : Bytes) : Type 0 where
   pub z : Bytes
   pub is : form_of v ≡ Some z
   pub bytes : AreBytes z
   pub apart : IsApart z form
+  pub order : IsOrdered z form
   pub passed : passes op (C z form) ≡ true
 
 -- the literal has a form to which the value stands so, or none, and is then no equal of the value
@@ -158,13 +163,16 @@ formed_by : {A : Type 0} (form : A → Bytes) (cmp : A → A → Ordering) (a b 
     → ((s t : Bytes) → slice_cmp nat_cmp (form a ++ s) (form b ++ t) ≡ ordering_then (cmp a b) (slice_cmp nat_cmp s t))
     → ((s t : Bytes) → form a ++ s ≡ form b ++ t → (a ≡ b) × (s ≡ t))
     → passes op (cmp a b) ≡ true → Formed op v (form b)
-formed_by form cmp a b op v is bytes order apart h = record {
-  z = form a;
-  is = is;
-  bytes = bytes;
-  apart = λ rest e. let same = (apart [] rest (append-nil (form a) ∙ e)).0 in ap (λ x. C (form x) (form b)) same ∙ tied_itself nat_list_cmp_total (form b);
-  passed = ap (passes op) (sym (ap (λ xs. C xs (form b)) (append-nil (form a))) ∙ sym (ap (C (form a ++ [])) (append-nil (form b))) ∙ order [] [] ∙ then_equal (cmp a b)) ∙ h;
-}
+formed_by form cmp a b op v is bytes order apart h =
+    let same_order : C (form a) (form b) ≡ cmp a b = sym (ap (λ xs. C xs (form b)) (append-nil (form a))) ∙ sym (ap (C (form a ++ [])) (append-nil (form b))) ∙ order [] [] ∙ then_equal (cmp a b) in
+    record {
+      z = form a;
+      is = is;
+      bytes = bytes;
+      apart = λ more rest e. ap (λ x. C (form x) (form b)) (apart more rest e).0 ∙ tied_itself nat_list_cmp_total (form b);
+      order = λ more. sym (ap (C (form a ++ more)) (append-nil (form b))) ∙ order more [] ∙ ap (λ o. ordering_then o (C more [])) (sym same_order);
+      passed = ap (passes op) same_order ∙ h;
+    }
 
 text_compared : FormLaws → (t u : Bytes) (op : Op) → IsUtf8 t → list_all is_no_zero t ≡ true → passes op (C t u) ≡ true → (b : Bool) → has_zero u ≡ b → Compared op (value.Text t) (cond b None (Some (text_bytes u)))
 text_compared laws t u op utf8 plain h true has = λ (e : op ≡ Eq).
@@ -184,10 +192,16 @@ long_formed : FormLaws → (v : Value) (m n : ℤ) (op : Op) → form_of v ≡ S
 long_formed laws v m n op is one two h = formed_by long_bytes int_cmp m n op v is (long_bytes_small m) (λ a b. laws.longs m n a b one two) (λ a b. laws.longs_apart m n a b one two) h
 
 bool_apart : (c b : Bool) → IsApart (bool_bytes c) (bool_bytes b)
-bool_apart true true rest e = refl
-bool_apart false false rest e = refl
-bool_apart true false rest e = absurd (cc)
-bool_apart false true rest e = absurd (cc)
+bool_apart true true more rest e = refl
+bool_apart false false more rest e = refl
+bool_apart true false more rest e = absurd (cc)
+bool_apart false true more rest e = absurd (cc)
+
+bool_ordered : (c b : Bool) → IsOrdered (bool_bytes c) (bool_bytes b)
+bool_ordered true true more = refl
+bool_ordered false false more = refl
+bool_ordered true false more = refl
+bool_ordered false true more = refl
 
 bool_bytes_small : (c : Bool) → AreBytes (bool_bytes c)
 bool_bytes_small true = All-from_recursion (λ byte. byte < 256) (1 ∷ []) (omega arith, tt)
@@ -218,6 +232,6 @@ compare_forms laws kind.Text (value.Text t) op (literal.Text u) f g h =
 compare_forms laws kind.Integer (value.Integer m) op (literal.Number n) f g h = integer_compared laws m n op f h (is_below (2 ^ 31) n) refl g
 compare_forms laws kind.Long (value.Long m) op (literal.Number n) f g h = long_formed laws (value.Long m) m n op refl (below_fits64 m f) (below_fits64 n g) h
 compare_forms laws kind.Boolean (value.Boolean c) op (literal.Truth b) f g h =
-    record { z = bool_bytes c; is = refl; bytes = bool_bytes_small c; apart = bool_apart c b; passed = bool_passes op c b h }
+    record { z = bool_bytes c; is = refl; bytes = bool_bytes_small c; apart = bool_apart c b; order = bool_ordered c b; passed = bool_passes op c b h }
 compare_forms laws kind.Date (value.Date at) op (literal.Date to) f g h = date_formed laws op at to f (instant_fits64 to g) h
 compare_forms laws _ _ op _ f g h = absurd (cc)

@@ -1,5 +1,5 @@
 -- The lexicoded value of which a filter is true is in one of its ranges.
-use Rattle.std.proofs.Common.{◌≡◌, ℕ, zero, suc, ◌<◌, Bool, true, false, not, [], ◌∷◌, ◌++◌, length, take, refl, sym, ap, ◌∙◌, true≢false, Option, Some, None, subst, append-nil}
+use Rattle.std.proofs.Common.{◌≡◌, ℕ, zero, suc, ◌<◌, Bool, true, false, not, [], ◌∷◌, ◌++◌, length, take, refl, sym, ap, ◌∙◌, true≢false, Option, Some, None, subst}
 use Rattle.std.proofs.lemmas.Bool.{and_parts, and_from, eqb-true, eq-eqb}
 use Rattle.std.proofs.lemmas.Cmp.{nat_list_cmp_total, nat_cmp_total, tied_itself}
 use Rattle.std.proofs.lemmas.Map.Text.{is_eq-slice_cmp}
@@ -82,14 +82,38 @@ lt_back Greater h = absurd (true≢false (sym h))
 gt_not_equal : (o : Ordering) → is_gt o ≡ true → o ≡ Equal → ⊥
 gt_not_equal o h e = true≢false (sym h ∙ ap is_gt e)
 
+then_lt : (o p : Ordering) → is_lt o ≡ true → is_lt (ordering_then o p) ≡ true
+then_lt Less p h = refl
+then_lt Equal p h = absurd (true≢false (sym h))
+then_lt Greater p h = absurd (true≢false (sym h))
+
+then_gt : (o p : Ordering) → is_gt o ≡ true → is_gt (ordering_then o p) ≡ true
+then_gt Less p h = absurd (true≢false (sym h))
+then_gt Equal p h = absurd (true≢false (sym h))
+then_gt Greater p h = refl
+
+then_ge : (o p : Ordering) → is_ge o ≡ true → is_ge p ≡ true → is_ge (ordering_then o p) ≡ true
+then_ge Less p h g = absurd (true≢false (sym h))
+then_ge Equal p h g = g
+then_ge Greater p h g = refl
+
 -- nothing stands before the empty bytes
 empty_first : (z : Bytes) → le [] z ≡ true
 empty_first [] = refl
 empty_first (x ∷ z) = refl
 
--- a form is no front of another
+-- nor does anything stand behind what it begins
+empty_behind : (z : Bytes) → is_ge (C z []) ≡ true
+empty_behind [] = refl
+empty_behind (x ∷ z) = refl
+
+-- a form is no front of another, and the other none of it
 abbrev pub IsApart : Bytes → Bytes → Type 0
-IsApart z form = (rest : Bytes) → z ≡ form ++ rest → C z form ≡ Equal
+IsApart z form = (more rest : Bytes) → z ++ more ≡ form ++ rest → C z form ≡ Equal
+
+-- what follows a form counts only where the forms are one
+abbrev pub IsOrdered : Bytes → Bytes → Type 0
+IsOrdered z form = (more : Bytes) → C (z ++ more) form ≡ ordering_then (C z form) (C more [])
 
 not_never : (b : Bool) → (not b ≡ true → ⊥) → b ≡ true
 not_never true g = refl
@@ -118,28 +142,54 @@ module _ (laws : EndLaws) where
   from_there z None never = absurd (never refl)
   from_there z (Some e) never = ranging_finds z e None (not_never (le e z) never) refl
 
+-- a form with what follows it
+module _ (laws : EndLaws) (z more : Bytes) (bytes : AreBytes (z ++ more)) where
+  abbrev whole : Bytes
+  whole = z ++ more
+
+  whole_lt : (form : Bytes) → IsOrdered z form → is_lt (C z form) ≡ true → is_lt (C whole form) ≡ true
+  whole_lt form order h = ap is_lt (order more) ∙ then_lt (C z form) (C more []) h
+
+  whole_gt : (form : Bytes) → IsOrdered z form → is_gt (C z form) ≡ true → is_gt (C whole form) ≡ true
+  whole_gt form order h = ap is_gt (order more) ∙ then_gt (C z form) (C more []) h
+
+  whole_ge : (form : Bytes) → IsOrdered z form → is_ge (C z form) ≡ true → is_ge (C whole form) ≡ true
+  whole_ge form order h = ap is_ge (order more) ∙ then_ge (C z form) (C more []) h (empty_behind more)
+
+  from_form : (form : Bytes) → IsOrdered z form → is_ge (C z form) ≡ true → le form whole ≡ true
+  from_form form order h = ap is_le (nat_list_cmp_total.antisymm form whole) ∙ ge_back (C whole form) (whole_ge form order h)
+
+  to_form : (form : Bytes) → IsOrdered z form → is_lt (C z form) ≡ true → is_before (Some form) whole ≡ true
+  to_form form order h = ap not (ap is_le (nat_list_cmp_total.antisymm form whole) ∙ lt_back (C whole form) (whole_lt form order h))
+
+  to_after : (form : Bytes) → IsOrdered z form → (o : Ordering) → C z form ≡ o → is_le o ≡ true → is_before (after_of form) whole ≡ true
+  to_after form order Less is h = below_after laws form whole bytes (le_from_lt (C whole form) (whole_lt form order (ap is_lt is)))
+  to_after form order Equal is h =
+      let same = ap (λ x. x ++ more) (same_bytes z form (ap is_eq is)) in
+      (and_parts (le form whole) (is_before (after_of form) whole) (beginning_holds laws form whole bytes more same)).1
+  to_after form order Greater is h = absurd (true≢false (sym h))
+
   -- what stands behind a form, and does not begin with it, is past all that begins with it
-  past_after : (form z : Bytes) → AreBytes z → IsApart z form → is_gt (C z form) ≡ true → (o : Option Bytes) → after_of form ≡ o → IsFound (is_form_in (Some z)) (ranging_from o)
-  past_after form z bytes apart h o is =
-      let behind : le form z ≡ true = ap is_le (nat_list_cmp_total.antisymm form z) ∙ gt_back (C z form) h in
-      let not_before : is_before o z ≡ true → ⊥ = λ (e : is_before o z ≡ true).
-      let inside : is_from_to form (after_of form) z ≡ true = and_from (le form z) _ behind (ap (λ p. is_before p z) is ∙ e) in
-      let front = begun form z (laws.begins form z bytes ∙ inside) in
-      gt_not_equal (C z form) h (apart front.0 front.1) in
-      from_there z o not_before
+  past_after : (form : Bytes) → IsApart z form → IsOrdered z form → is_gt (C z form) ≡ true → (o : Option Bytes) → after_of form ≡ o → IsFound (is_form_in (Some whole)) (ranging_from o)
+  past_after form apart order h o is =
+      let behind : le form whole ≡ true = ap is_le (nat_list_cmp_total.antisymm form whole) ∙ gt_back (C whole form) (whole_gt form order h) in
+      let not_before : is_before o whole ≡ true → ⊥ = λ (e : is_before o whole ≡ true).
+      let inside : is_from_to form (after_of form) whole ≡ true = and_from (le form whole) _ behind (ap (λ p. is_before p whole) is ∙ e) in
+      let front = begun form whole (laws.begins form whole bytes ∙ inside) in
+      gt_not_equal (C z form) h (apart more front.0 front.1) in
+      from_there laws whole o not_before
 
   -- where the form of a value compares so with that of a literal
-  pub form_found : (op : Op) (z form : Bytes) → AreBytes z → IsApart z form → passes op (C z form) ≡ true → IsFound (is_form_in (Some z)) (compared_form op form)
-  form_found Eq z form bytes apart h = beginning_finds form z bytes [] (same_bytes z form h ∙ sym (append-nil form))
-  form_found Ne z form bytes apart h = tt
-  form_found Lt z form bytes apart h = ranging_finds z [] (Some form) (empty_first z) (ap not (ap is_le (nat_list_cmp_total.antisymm form z) ∙ lt_back (C z form) h))
-  form_found Le z form bytes apart h = ranging_finds z [] (after_of form) (empty_first z) (below_after form z bytes h)
-  form_found Gt z form bytes apart h = past_after form z bytes apart h (after_of form) refl
-  form_found Ge z form bytes apart h = ranging_finds z form None (ap is_le (nat_list_cmp_total.antisymm form z) ∙ ge_back (C z form) h) refl
+  pub form_found : (op : Op) (form : Bytes) → IsApart z form → IsOrdered z form → passes op (C z form) ≡ true → IsFound (is_form_in (Some whole)) (compared_form op form)
+  form_found Eq form apart order h = beginning_finds laws form whole bytes more (ap (λ x. x ++ more) (same_bytes z form h))
+  form_found Ne form apart order h = tt
+  form_found Lt form apart order h = ranging_finds laws whole [] (Some form) (empty_first whole) (to_form form order h)
+  form_found Le form apart order h = ranging_finds laws whole [] (after_of form) (empty_first whole) (to_after form order (C z form) refl h)
+  form_found Gt form apart order h = past_after form apart order h (after_of form) refl
+  form_found Ge form apart order h = ranging_finds laws whole form None (from_form form order h) refl
 
-  pub between_found : (z low high : Bytes) → AreBytes z → is_ge (C z low) ≡ true → is_le (C z high) ≡ true → IsFound (is_form_in (Some z)) (ranging low (after_of high))
-  between_found z low high bytes h g = ranging_finds z low (after_of high) (ap is_le (nat_list_cmp_total.antisymm low z) ∙ ge_back (C z low) h) (below_after high z bytes g)
+  pub between_found : (low high : Bytes) → IsOrdered z low → IsOrdered z high → is_ge (C z low) ≡ true → is_le (C z high) ≡ true → IsFound (is_form_in (Some whole)) (ranging low (after_of high))
+  between_found low high first last h g = ranging_finds laws whole low (after_of high) (from_form low first h) (to_after high last (C z high) refl g)
 
-  pub from_to_found : (z low high : Bytes) → is_ge (C z low) ≡ true → is_lt (C z high) ≡ true → IsFound (is_form_in (Some z)) (ranging low (Some high))
-  from_to_found z low high h g =
-      ranging_finds z low (Some high) (ap is_le (nat_list_cmp_total.antisymm low z) ∙ ge_back (C z low) h) (ap not (ap is_le (nat_list_cmp_total.antisymm high z) ∙ lt_back (C z high) g))
+  pub from_to_found : (low high : Bytes) → IsOrdered z low → IsOrdered z high → is_ge (C z low) ≡ true → is_lt (C z high) ≡ true → IsFound (is_form_in (Some whole)) (ranging low (Some high))
+  from_to_found low high first last h g = ranging_finds laws whole low (Some high) (from_form low first h) (to_form high last g)

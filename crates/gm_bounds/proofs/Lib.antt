@@ -1,4 +1,5 @@
 pub mod Extents
+pub mod Few
 pub mod IdBounds
 pub mod Risings
 pub mod InForms

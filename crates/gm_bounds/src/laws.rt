@@ -1,7 +1,8 @@
 // Laws of the bounds, for the crates above.
-ghost use Rattle.std.specs.Prelude.{◌≡◌, ℕ, true, Some};
+ghost use Rattle.std.specs.Prelude.{◌≡◌, ◌<◌, ◌≤◌, ◌++◌, ℕ, List, All, length, true, Option, Some, option_map};
 ghost use Rattle.std.specs.Bool.{Decides};
 ghost use Rattle.std.specs.Str.{bytes_eq};
+ghost use Rattle.gm_base.specs.Identifier.{is_identifier};
 ghost use Rattle.gm_types.specs.FeatureType.{HoldsTogether};
 ghost use Rattle.gm_types.specs.declared.kind.Kind.{Kind};
 ghost use Rattle.gm_types.specs.Specification.{Specification, default_geometry_of, default_date_of};
@@ -10,9 +11,10 @@ ghost use Rattle.gm_feature.specs.Feature.{Fits, value_at};
 ghost use Rattle.gm_filter.specs.Suits.{Suits};
 ghost use Rattle.gm_filter.specs.Tree.{Tree};
 ghost use Rattle.gm_filter.specs.Truth.{is_true};
+ghost use Rattle.gm_bounds.specs.declared.bound.Bound.TheVariants.{Listed};
 ghost use Rattle.gm_bounds.specs.declared.byte_range.ByteRange.{ByteRange};
 ghost use Rattle.gm_bounds.specs.Boxes.{boxes_of};
-ghost use Rattle.gm_bounds.specs.ByteRange.{is_form_in};
+ghost use Rattle.gm_bounds.specs.ByteRange.{is_form_in, joined};
 ghost use Rattle.gm_bounds.specs.ByteRanges.{byte_ranges_of, form_of};
 ghost use Rattle.gm_bounds.specs.ClosedBox.{is_geometry_in};
 ghost use Rattle.gm_bounds.specs.Found.{IsFound};
@@ -58,6 +60,16 @@ pub fn forms_are_in_ranges()
         → is_true f t ≡ true
         → IsFound (is_form_in (form_of (value_at f d))) (byte_ranges_of s d t) }
 {
+    forms_and_more_are_in_ranges();
+}
+
+/// The same of the form with any bytes behind it, as an identifier stands behind it in a key.
+pub fn forms_and_more_are_in_ranges()
+    ensures { (s : Specification) (t : Tree) (f : Feature) (d : ℕ) (rest : List ℕ) → Suits s t
+        → Fits s f → is_true f t ≡ true → All (λ byte. byte < 256) rest
+        → IsFound (is_form_in (option_map (λ form. form ++ rest) (form_of (value_at f d))))
+        (byte_ranges_of s d t) }
+{
     fitting_features_have_values();
     like_begins();
     begins_where_within();
@@ -65,6 +77,25 @@ pub fn forms_are_in_ranges()
     values_in_order();
     no_value_is_a_front();
 }
+
+/// The least range that holds two holds whatever is in either of them.
+pub fn joined_ranges_hold_both()
+    ensures first { (o : Option (List ℕ)) (r s : ByteRange) → is_form_in o r ≡ true
+        → is_form_in o (joined r s) ≡ true }
+    ensures second { (o : Option (List ℕ)) (r s : ByteRange) → is_form_in o s ≡ true
+        → is_form_in o (joined r s) ≡ true }
+{}
+
+/// The byte ranges of a filter, where they are a list, number at most eight.
+pub fn byte_ranges_are_few()
+    ensures { (s : Specification) (t : Tree) (d : ℕ) (ranges : List ByteRange)
+        → byte_ranges_of s d t ≡ Listed ranges → length ranges ≤ 8 }
+{}
+
+/// An identifier is of bytes.
+pub fn identifiers_are_bytes()
+    ensures { (id : List ℕ) → is_identifier id ≡ true → All (λ byte. byte < 256) id }
+{}
 
 /// Where identifiers are a list, that of a feature of which the filter is true is among them.
 pub fn identifiers_are_listed()

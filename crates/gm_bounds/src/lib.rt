@@ -25,8 +25,9 @@ pub use byte_range::ByteRange;
 pub use identifiers::ids;
 pub use interval::Interval;
 pub use laws::{
-    dates_are_in_intervals, forms_are_in_ranges, geometries_are_in_boxes, identifiers_are_listed,
-    one_value_is_as_told,
+    byte_ranges_are_few, dates_are_in_intervals, forms_and_more_are_in_ranges, forms_are_in_ranges,
+    geometries_are_in_boxes, identifiers_are_bytes, identifiers_are_listed,
+    joined_ranges_hold_both, one_value_is_as_told,
 };
 pub use lists::LIST_LIMIT;
 pub use one_value::{are_of_one_value, is_of_one_value};

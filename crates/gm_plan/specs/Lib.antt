@@ -1,0 +1,10 @@
+pub mod Bins
+pub mod Covering
+pub mod Inside
+pub mod KeyRanges
+pub mod Known
+pub mod Laws
+pub mod Lines
+pub mod Merged
+pub mod Spans
+pub mod Windows
