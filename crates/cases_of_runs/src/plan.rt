@@ -17,12 +17,14 @@ pub(crate) enum Failing {
 
 /// What stands behind a case's name: `piece=N`, the greatest piece of the source and the sink;
 /// `read=N` or `write=N`, the call that fails, or `each_read` or `each_write`, where one after the
-/// other fails until none does; `word`, for a run that is given a word.
+/// other fails until none does; `word`, for a run that is given a word; `steady`, for a source and
+/// a sink that never fail.
 #[derive(Clone, Copy, Debug)]
 pub(crate) struct Plan {
     pub(crate) piece: usize,
     pub(crate) failing: Failing,
     pub(crate) has_word: bool,
+    pub(crate) is_steady: bool,
 }
 
 impl Plan {
@@ -31,6 +33,7 @@ impl Plan {
             piece: 1 << 16,
             failing: Failing::Nothing,
             has_word: false,
+            is_steady: false,
         };
         for word in header.split_whitespace() {
             plan = plan.with(word);
@@ -45,6 +48,7 @@ impl Plan {
                 piece: piece as usize,
                 failing: self.failing,
                 has_word: self.has_word,
+                is_steady: self.is_steady,
             };
         }
         let failing = match (number_behind("read=", word), number_behind("write=", word)) {
@@ -61,6 +65,7 @@ impl Plan {
             piece: self.piece,
             failing,
             has_word: self.has_word || word == "word",
+            is_steady: self.is_steady || word == "steady",
         }
     }
 }

@@ -5,7 +5,7 @@ ghost use Rattle.gm_program.specs.Store.{HasState};
 use crate::plan::{Failing, Plan};
 use crate::script::Scripts;
 use gm_base::{NoMemory, Tally, Text};
-use gm_outside::{MemorySink, MemorySource, NoGate, SteadyFolder};
+use gm_outside::{MemorySink, MemorySource, NoGate, SteadyFolder, SteadySink, SteadySource};
 use gm_program::{Status, Store, run};
 use gm_table::{MapTable, Sorted};
 use std::alloc::Global;
@@ -90,19 +90,74 @@ fn run_once(
     ensures kept { IfOk result (λ ended. ended.status ≡ Status.Done
         → HasState store.new.types (⟦<MapTable as Sorted>⟧.rows store.new.table)) }
 {
+    let words = words_of(alloc, plan)?;
+    let script = script.to_vec(alloc)?;
+    if plan.is_steady {
+        run_steady(alloc, &words, script, store)
+    } else {
+        run_in_pieces(alloc, &words, script, plan.piece.max(1), failing, store)
+    }
+}
+
+// Over a source and a sink that never fail.
+fn run_steady(
+    alloc: Global,
+    words: &[Text],
+    script: Vec<u8>,
+    store: &mut Store<MapTable>,
+) -> Result<Ended, NoMemory>
+    requires kept { HasState store.old.types (⟦<MapTable as Sorted>⟧.rows store.old.table) }
+    ensures kept { IfOk result (λ ended. ended.status ≡ Status.Done
+        → HasState store.new.types (⟦<MapTable as Sorted>⟧.rows store.new.table)) }
+{
+    let mut source = SteadySource::new(script);
+    let mut sink = SteadySink::new(alloc);
+    let mut tally = Tally::new();
+    let status = run(
+        alloc,
+        words,
+        &mut source,
+        &mut sink,
+        &mut SteadyFolder,
+        &NoGate,
+        store,
+        &mut tally,
+    );
+    let rows = tally.close();
+    let written = sink.bytes().to_vec(alloc)?;
+    let flushed = written.len();
+    Ok(Ended {
+        status,
+        rows,
+        written,
+        flushed,
+    })
+}
+
+// Over a source and a sink that take at most so many bytes at a time, and fail as is said.
+fn run_in_pieces(
+    alloc: Global,
+    words: &[Text],
+    script: Vec<u8>,
+    piece: usize,
+    failing: Failing,
+    store: &mut Store<MapTable>,
+) -> Result<Ended, NoMemory>
+    requires kept { HasState store.old.types (⟦<MapTable as Sorted>⟧.rows store.old.table) }
+    ensures kept { IfOk result (λ ended. ended.status ≡ Status.Done
+        → HasState store.new.types (⟦<MapTable as Sorted>⟧.rows store.new.table)) }
+{
     let (reads, writes) = match failing {
         Failing::Read(call) => (one(alloc, call)?, Vec::new(alloc)),
         Failing::Write(call) => (Vec::new(alloc), one(alloc, call)?),
         _ => (Vec::new(alloc), Vec::new(alloc)),
     };
-    let piece = plan.piece.max(1);
-    let mut source = MemorySource::new(script.to_vec(alloc)?, piece, reads);
+    let mut source = MemorySource::new(script, piece, reads);
     let mut sink = MemorySink::new(alloc, piece, writes);
-    let words = words_of(alloc, plan)?;
     let mut tally = Tally::new();
     let status = run(
         alloc,
-        &words,
+        words,
         &mut source,
         &mut sink,
         &mut SteadyFolder,

@@ -5,20 +5,22 @@ use Rattle.std.proofs.lemmas.Bool.{cases_lt}
 use Rattle.std.proofs.lemmas.Bool.Decides.{nat_tests}
 use Rattle.std.proofs.lemmas.List.{append-nil, take_all, length-take-le}
 use Rattle.gm_base.specs.Counter.{capped_sum}
-use Rattle.gm_base.specs.declared.code.Code.TheVariants.{E04}
-use Rattle.gm_program.specs.declared.reply.Reply.{Reply}
+use Rattle.gm_base.specs.declared.code.Code.TheVariants.{E01}
+use Rattle.gm_engine_rows.specs.State.{State, types_of}
+use Rattle.gm_script.specs.Line.{without_return}
+use Rattle.gm_script.specs.Reading as script
+use Rattle.gm_script.specs.Reading.{reading, reading_of}
+use Rattle.gm_script.specs.declared.reply.Reply.{Reply}
 use Rattle.gm_program.specs.declared.setting.Setting.{Setting}
 use Rattle.gm_program.specs.declared.stop.Stop.{Stop}
 use Rattle.gm_program.specs.declared.stop.Stop.TheVariants as stop
 use Rattle.gm_program.specs.declared.stop.Stop.TheVariants.{ReadFault, TooLong}
-use Rattle.gm_program.specs.Reading.{reading, reading_of}
-use Rattle.gm_program.specs.State.{State, Types, types_of}
 use Rattle.gm_program.specs.Machine.{Machine, Turn, line_turn, turn_of, outcome_of, machine_at, said, end_turn, after, replies, examined_by, output}
 use Rattle.gm_program.specs.Lines.{complete_from, partial_from, lines_of, last_line, cut}
 use Rattle.gm_table.specs.Sorted.{Rows}
 use Rattle.gm_program.specs.declared.pending.Pending.{Pending}
 use Rattle.gm_program.specs.declared.pending.Pending.TheVariants.{Nothing}
-use Rattle.gm_program.specs.Store.{HasState}
+use Rattle.gm_program.specs.Store.{Types, HasState}
 use Rattle.gm_program.specs.Serving.{Moment, HasMachine, KeptAt, Takes, Goes, Serves, Closes, closing, Writes, WritesPart, Took, Streams, Breaks, Stopped}
 use Rattle.gm_program.specs.Running.{Finishes}
 use Rattle.gm_program.proofs.Cutting.{complete_from-append, partial_from-append, complete_from-more, partial_from-more, complete_from-all, cut-none, IsInsideLine}
@@ -332,7 +334,8 @@ reading-long types line long =
     let few : length (take 1048577 line) ≡ 1048577 = length-take-le 1048577 line long in
     let one : nat_lt 1048576 (length (take 1048577 line)) ≡ true = rw few refl in
     let two : nat_lt 1048576 (length line) ≡ true = grind (arith, nat_tests) in
-    ap (λ b. if b then Err E04 else reading_of types (take 1048577 line)) one ∙ sym (ap (λ b. if b then Err E04 else reading_of types line) two)
+    ap (λ b. if b then script.refused E01 else reading_of types (without_return (take 1048577 line))) one
+    ∙ sym (ap (λ b. if b then script.refused E01 else reading_of types (without_return line)) two)
 
 pub reading-cut : (types : Types) (line : List ℕ) → reading types (cut line) ≡ reading types line
 unfolding cut

@@ -1,14 +1,15 @@
 -- A machine that reads lines, and keeps a plain map of features and what it still waits for.
 use Rattle.std.specs.Prelude.{ℕ, ◌+◌, List, [], ◌∷◌, ◌++◌, Result, Ok, Err, Option, Some, None}
-use Rattle.gm_base.specs.declared.code.Code.{Code}
-use Rattle.gm_program.specs.declared.command.Command.{Command}
+use Rattle.gm_engine_rows.specs.State.{State, types_of}
 use Rattle.gm_program.specs.declared.pending.Pending.{Pending}
 use Rattle.gm_program.specs.declared.pending.Pending.TheVariants.{Nothing}
-use Rattle.gm_program.specs.declared.reply.Reply.{Reply}
+use Rattle.gm_script.specs.declared.fault.LineFault.{LineFault}
+use Rattle.gm_script.specs.declared.fault.LineFault.TheVariants as fault
+use Rattle.gm_script.specs.declared.reply.Reply.{Reply}
+use Rattle.gm_script.specs.Order.{Order, nothing}
+use Rattle.gm_script.specs.Reading.{reading}
+use Rattle.gm_script.specs.Reply.{reply_bytes}
 use Rattle.gm_program.specs.declared.setting.Setting.{Setting}
-use Rattle.gm_program.specs.State.{State, types_of}
-use Rattle.gm_program.specs.Reading.{reading}
-use Rattle.gm_program.specs.Reply.{reply_bytes}
 use Rattle.gm_program.specs.Step.{Outcome, step, refused}
 use Rattle.gm_program.specs.Lines.{lines_of}
 
@@ -23,12 +24,13 @@ pub record Turn : Type 0 where
   pub examined : ℕ
 
 abbrev pub turn_of : Outcome → Turn
-turn_of outcome = record { machine = record { state = outcome.state; pending = Nothing }; reply = Some outcome.reply; examined = outcome.examined }
+turn_of outcome = record { machine = record { state = outcome.state; pending = Nothing }; reply = outcome.reply; examined = outcome.examined }
 
 -- the outcome of a line that was read so
-abbrev pub outcome_of : Setting → State → Result Command Code → Outcome
-outcome_of setting s (Ok command) = step setting s command
-outcome_of setting s (Err code) = refused s code
+abbrev pub outcome_of : Setting → State → Result Order LineFault → Outcome
+outcome_of setting s (Ok order) = step setting s order
+outcome_of setting s (Err (fault.Refused code lines)) = refused s code 0
+outcome_of setting s (Err fault.NoMemory) = step setting s nothing
 
 -- one line
 abbrev pub line_turn : Setting → Machine → List ℕ → Turn

@@ -5,8 +5,8 @@ use Rattle.gm_base.specs.Counter.{capped_sum}
 use Rattle.gm_table.specs.Sorted.{Rows}
 use Rattle.gm_program.specs.declared.setting.Setting.{Setting}
 use Rattle.gm_program.specs.Lines.{complete_from}
-use Rattle.gm_program.specs.State.{State, Types}
-use Rattle.gm_program.specs.Store.{Holds}
+use Rattle.gm_engine_rows.specs.State.{State}
+use Rattle.gm_program.specs.Store.{Types, Holds}
 use Rattle.gm_program.specs.Machine.{machine_at, replies, output, examined, state_after}
 
 -- what the words say to commands: of the words there are none in this language

@@ -5,13 +5,13 @@ use Rattle.gm_base.specs.Counter.{capped_sum}
 use Rattle.gm_outside.specs.Failed.{Rose}
 use Rattle.gm_table.specs.Sorted.{Rows}
 use Rattle.gm_program.specs.declared.pending.Pending.{Pending}
-use Rattle.gm_program.specs.declared.reply.Reply.{Reply}
+use Rattle.gm_script.specs.declared.reply.Reply.{Reply}
 use Rattle.gm_program.specs.declared.setting.Setting.{Setting}
 use Rattle.gm_program.specs.declared.stop.Stop.{Stop}
 use Rattle.gm_program.specs.declared.stop.Stop.TheVariants.{ReadFault, WriteFault, TooLong}
 use Rattle.gm_program.specs.Lines.{complete_from, partial_from, cut}
-use Rattle.gm_program.specs.State.{State, Types}
-use Rattle.gm_program.specs.Store.{Holds}
+use Rattle.gm_engine_rows.specs.State.{State}
+use Rattle.gm_program.specs.Store.{Types, Holds}
 use Rattle.gm_program.specs.Step.{Outcome}
 use Rattle.gm_program.specs.Machine.{Machine, Turn, said, end_turn, after, machine_at, replies, examined_by, output}
 
@@ -39,7 +39,7 @@ abbrev pub HasMachine : Types → Rows → Pending → Type 0
 HasMachine types rows pending = (m : Machine) × Keeps m types rows pending
 
 -- a command was done as its outcome says
-pub record Executes (outcome : Outcome) (given : Reply) (types : Types) (rows : Rows) (tally_before tally_after : ℕ) : Type 0 where
+pub record Executes (outcome : Outcome) (given : Option Reply) (types : Types) (rows : Rows) (tally_before tally_after : ℕ) : Type 0 where
   pub store : Holds outcome.state types rows
   pub reply : given ≡ outcome.reply
   pub tally : tally_after ≡ capped_sum tally_before outcome.examined

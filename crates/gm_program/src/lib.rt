@@ -1,16 +1,8 @@
 //! The program: the top call `run`, which serves a script from a source to a sink over a sorted table.
 #![tactic(auto)]
 
-mod command;
 mod execute;
-mod feature;
-mod found;
-mod key;
-mod numbers;
-mod parts;
 mod pending;
-mod reading;
-mod reply;
 mod script;
 mod serve;
 mod setting;

@@ -5,7 +5,7 @@ ghost use Rattle.gm_outside.specs.Failed.{Rose};
 ghost use Rattle.gm_program.specs.Lines.{cut, last_line};
 ghost use Rattle.gm_program.specs.Machine.{Machine, replies, output, machine_at};
 ghost use Rattle.gm_program.specs.Running.{Finishes, RepliesToTaken, setting_of};
-ghost use Rattle.gm_program.specs.State.{State};
+ghost use Rattle.gm_engine_rows.specs.State.{State};
 ghost use Rattle.gm_program.specs.Store.{Holds, HasState};
 ghost use Rattle.gm_program.specs.Serving.{moment, Keeps, HasMachine, Serves, Closes, closing, WritesPart, Streams, Breaks, Stopped, HasCause};
 

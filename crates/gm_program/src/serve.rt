@@ -3,20 +3,19 @@ ghost use Rattle.std.specs.Prelude.{◌≡◌, ◌≤◌, ◌++◌, [], ◌∷�
 ghost use Rattle.std.specs.Option.{ForSome};
 ghost use Rattle.gm_outside.specs.Failed.{Rose};
 ghost use Rattle.gm_program.specs.Machine.{Machine, line_turn, end_turn, said, replies, outcome_of};
-ghost use Rattle.gm_program.specs.State.{State};
+ghost use Rattle.gm_engine_rows.specs.State.{State};
 ghost use Rattle.gm_program.specs.Store.{HasState, Holds};
-ghost use Rattle.gm_program.specs.Reading.{reading};
+ghost use Rattle.gm_script.specs.Reading.{reading};
 ghost use Rattle.gm_program.specs.Lines.{complete_from, partial_from, cut};
 ghost use Rattle.gm_program.specs.Serving.{moment, Keeps, HasMachine, Executes, Takes, Writes, WritesPart, Goes, Serves};
 
 use crate::execute::execute;
 use crate::pending::Pending;
-use crate::reading::{LINE_LIMIT, LineFault, read_line};
-use crate::reply::{Reply, print_reply};
 use crate::setting::Setting;
 use crate::store::Store;
 use gm_base::NoMemory;
 use gm_outside::{Sink, SinkRefusal};
+use gm_script::{LINE_LIMIT, LineFault, Reply, print_reply, read_line};
 use gm_table::Sorted;
 use memchr::memchr;
 use std::alloc::Global;
@@ -123,10 +122,7 @@ fn take_line<B: Sorted>(
         Takes (line_turn setting m line.now) reply store.new.types (B.rows store.new.table) pending.new (B.Tally.number tally.old) (B.Tally.number tally.new)) }
 {
     match *pending {
-        Pending::Nothing => {
-            let reply = reply_to(alloc, setting, line, store, tally)?;
-            Ok(Some(reply))
-        }
+        Pending::Nothing => reply_to(alloc, setting, line, store, tally),
     }
 }
 
@@ -145,21 +141,21 @@ fn take_end<B: Sorted>(
     }
 }
 
-// The reply to a line where nothing is pending.
+// What is replied to a line where nothing is pending.
 fn reply_to<B: Sorted>(
     alloc: Global,
     setting: Setting,
     line: &[u8],
     store: &mut Store<B>,
     tally: &mut B::Tally,
-) -> Result<Reply, NoMemory>
+) -> Result<Option<Reply>, NoMemory>
     requires kept { HasState store.old.types (B.rows store.old.table) }
     ensures { (s : State) → Holds s store.old.types (B.rows store.old.table) → IfOk result (λ reply.
         Executes (outcome_of setting s (reading store.old.types line.now)) reply store.new.types (B.rows store.new.table) (B.Tally.number tally.old) (B.Tally.number tally.new)) }
 {
-    match read_line(alloc, store.types.as_slice(), line) {
+    match read_line(alloc, &store.types, line) {
         Ok(command) => execute(alloc, setting, command, store, tally),
-        Err(LineFault::Refused(code)) => Ok(Reply::Refusal { code, row: None }),
+        Err(LineFault::Refused(code, _lines)) => Ok(Some(Reply::Refusal { code, row: None })),
         Err(LineFault::NoMemory) => Err(NoMemory),
     }
 }

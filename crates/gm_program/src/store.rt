@@ -2,15 +2,15 @@
 ghost use Rattle.std.specs.Prelude.{◌≡◌, []};
 ghost use Rattle.gm_program.specs.Store.{HasState};
 
-use gm_base::{Items, Text};
 use gm_table::Sorted;
+use gm_types::TypeList;
 use std::alloc::Global;
 
 /// Feature types, in order of creation, and one sorted table with all rows of their features. It keeps
 /// no second map: what stands in it can be had from the table alone.
 #[derive(Debug, Drop)]
 pub struct Store<B> {
-    pub types: Items<Text>,
+    pub types: TypeList,
     pub table: B,
 }
 
@@ -23,7 +23,7 @@ impl<B: Sorted> Store<B> {
         ensures kept { HasState result.types (B.rows result.table) }
     {
         Store {
-            types: Items::new(alloc),
+            types: TypeList::new(alloc),
             table,
         }
     }

@@ -1,0 +1,60 @@
+-- Features with another value in a place.
+use Rattle.std.proofs.Common.{◌≡◌, ℕ, zero, suc, Bool, true, false, true≢false, not, ◌&&◌, ◌||◌, List, [], ◌∷◌, length, Option, Some, None, refl, sym, ap, subst, ◌∙◌}
+use Rattle.std.specs.Prelude.{slice_get, slice_set, get_or, ◌==◌}
+use Rattle.gm_calendar.specs.declared.period.Period.{Period}
+use Rattle.gm_types.specs.declared.kind.Kind.{Kind}
+use Rattle.gm_types.specs.Specification.{Specification, kinds_of, default_date_of, period_of}
+use Rattle.gm_feature.specs.declared.feature.Feature.{Feature}
+use Rattle.gm_feature.specs.declared.value.Value.{Value}
+use Rattle.gm_feature.specs.declared.value.Value.TheVariants.{Null}
+use Rattle.gm_feature.specs.Feature.{Fits, values_fit, has_bin, date_has_bin, has_time_index, dates_fit}
+use Rattle.gm_feature.specs.Value.{value_fits}
+use Rattle.gm_script.specs.Bins.{is_place, keeps_bins}
+use Rattle.gm_program.specs.Matching.{MayTake}
+use Rattle.gm_program.specs.Step.{with_value}
+use Rattle.gm_program.proofs.Bound.{same_some, none_some}
+
+first_so : (a b : Bool) → (a && b) ≡ true → (a ≡ true) × (b ≡ true)
+first_so true b h = (refl, h)
+first_so false b h = absurd (true≢false (sym h))
+
+both_are : (a b : Bool) → a ≡ true → b ≡ true → (a && b) ≡ true
+both_are a b one two = ap (λ x. x && b) one ∙ two
+
+-- each value is one that its kind may hold
+set_fits : (kinds : List Kind) (values : List Value) (place : ℕ) (k : Kind) (v : Value)
+    → values_fit kinds values ≡ true → slice_get kinds place ≡ Some k → value_fits k v ≡ true → values_fit kinds (slice_set values place v) ≡ true
+set_fits [] [] place k v fit there new = refl
+set_fits [] (x ∷ xs) place k v fit there new = absurd (true≢false (sym fit))
+set_fits (c ∷ cs) [] place k v fit there new = absurd (true≢false (sym fit))
+set_fits (c ∷ cs) (x ∷ xs) zero k v fit there new =
+    both_are (value_fits c v) (values_fit cs xs) (subst (λ (d : Kind). value_fits d v ≡ true) (sym (same_some c k there)) new) (first_so (value_fits c x) (values_fit cs xs) fit).1
+set_fits (c ∷ cs) (x ∷ xs) (suc i) k v fit there new =
+    let h = first_so (value_fits c x) (values_fit cs xs) fit in
+    both_are (value_fits c x) (values_fit cs (slice_set xs i v)) h.0 (set_fits cs xs i k v h.1 there new)
+
+-- and the default date has a bin
+set_has_bin : (p : Period) (values : List Value) (place number : ℕ) (v : Value) → (not (number == place) || has_bin p v) ≡ true
+    → has_bin p (get_or values number Null) ≡ true → has_bin p (get_or (slice_set values place v) number Null) ≡ true
+set_has_bin p [] place number v keeps has = has
+set_has_bin p (x ∷ xs) zero zero v keeps has = keeps
+set_has_bin p (x ∷ xs) zero (suc j) v keeps has = has
+set_has_bin p (x ∷ xs) (suc i) zero v keeps has = has
+set_has_bin p (x ∷ xs) (suc i) (suc j) v keeps has = set_has_bin p xs i j v keeps has
+
+set_date : (p : Period) (date : Option ℕ) (values : List Value) (place : ℕ) (v : Value) → (not (is_place place date) || has_bin p v) ≡ true
+    → date_has_bin p date values ≡ true → date_has_bin p date (slice_set values place v) ≡ true
+set_date p None values place v keeps has = refl
+set_date p (Some number) values place v keeps has = set_has_bin p values place number v keeps has
+
+set_dates : (timed : Bool) (p : Period) (date : Option ℕ) (values : List Value) (place : ℕ) (v : Value) → (not timed || (not (is_place place date) || has_bin p v)) ≡ true
+    → (not timed || date_has_bin p date values) ≡ true → (not timed || date_has_bin p date (slice_set values place v)) ≡ true
+set_dates true p date values place v keeps has = set_date p date values place v keeps has
+set_dates false p date values place v keeps has = refl
+
+pub value_given : (t : Specification) (f : Feature) (place : ℕ) (v : Value) → Fits t f → MayTake t place v → Fits t (with_value place v f)
+value_given t f place v fits takes = record {
+  identifier = fits.identifier;
+  each = set_fits (kinds_of t) f.values place takes.holds.kind v fits.each takes.holds.there takes.holds.fits;
+  date = set_dates (has_time_index t) (period_of t) (default_date_of t) f.values place v takes.dated fits.date;
+}

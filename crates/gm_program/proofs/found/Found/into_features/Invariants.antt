@@ -1,6 +1,0 @@
-use Rattle.std.proofs.Common.{◌≡◌, ◌++◌, map}
-use Rattle.gm_program.specs.Finding.{feature_of}
-use Rattle.gm_program.proofs.found.Found.into_features.Given as goal
-
-abbrev pub invariant-loop-id : goal.invariant-loop-id
-invariant-loop-id l = l.features ++ map feature_of l.id-iterator ≡ map feature_of l.fn.self.points.entries

@@ -1,0 +1,71 @@
+// `query` and `count`
+ghost use Rattle.std.specs.Prelude.{IfOk};
+ghost use Rattle.gm_engine_rows.specs.State.{State};
+ghost use Rattle.gm_script.specs.Order.{asked_by};
+ghost use Rattle.gm_script.specs.Suits.{IsQuestion};
+ghost use Rattle.gm_program.specs.Serving.{Executes};
+ghost use Rattle.gm_program.specs.Step.{query_step, count_step};
+ghost use Rattle.gm_program.specs.Store.{Holds, HasState};
+
+use super::parts::read_plan;
+use super::plan::{Planned, plan_for};
+use crate::store::Store;
+use gm_base::NoMemory;
+use gm_script::{Ask, Reply};
+use gm_strategy::{parts_are_served, parts_find_all};
+use gm_table::Sorted;
+use std::alloc::Global;
+
+/// Finds the features of which a filter is true.
+pub(super) fn query<B: Sorted>(
+    alloc: Global,
+    ask: &Ask,
+    store: &Store<B>,
+    tally: &mut B::Tally,
+) -> Result<Option<Reply>, NoMemory>
+    requires kept { HasState store.now.types (B.rows store.now.table) }
+    requires suits { IsQuestion store.now.types (asked_by ask.now) }
+    ensures { (s : State) → Holds s store.now.types (B.rows store.now.table)
+        → IfOk result (λ reply. Executes (query_step (asked_by ask.now) s) reply
+        store.now.types (B.rows store.now.table) (B.Tally.number tally.old) (B.Tally.number tally.new)) }
+{
+    parts_are_served();
+    parts_find_all();
+    let of = &store.types.as_slice()[usize::from(ask.number)];
+    match plan_for(alloc, of, ask)? {
+        Planned::Refused(code) => Ok(Some(Reply::Refusal { code, row: None })),
+        Planned::Parts(plan, target) => {
+            let read = read_plan(alloc, of, plan.as_slice(), target, &store.table, tally)?;
+            let examined = read.examined;
+            let features = read.found.into_features(alloc)?;
+            Ok(Some(Reply::Found { features, examined }))
+        }
+    }
+}
+
+/// Counts the features of which a filter is true.
+pub(super) fn count<B: Sorted>(
+    alloc: Global,
+    ask: &Ask,
+    store: &Store<B>,
+    tally: &mut B::Tally,
+) -> Result<Option<Reply>, NoMemory>
+    requires kept { HasState store.now.types (B.rows store.now.table) }
+    requires suits { IsQuestion store.now.types (asked_by ask.now) }
+    ensures { (s : State) → Holds s store.now.types (B.rows store.now.table)
+        → IfOk result (λ reply. Executes (count_step (asked_by ask.now) s) reply
+        store.now.types (B.rows store.now.table) (B.Tally.number tally.old) (B.Tally.number tally.new)) }
+{
+    parts_are_served();
+    parts_find_all();
+    let of = &store.types.as_slice()[usize::from(ask.number)];
+    match plan_for(alloc, of, ask)? {
+        Planned::Refused(code) => Ok(Some(Reply::Refusal { code, row: None })),
+        Planned::Parts(plan, target) => {
+            let read = read_plan(alloc, of, plan.as_slice(), target, &store.table, tally)?;
+            let examined = read.examined;
+            let matched = read.found.len() as u64;
+            Ok(Some(Reply::Counted { matched, examined }))
+        }
+    }
+}
