@@ -1,7 +1,7 @@
 //! Reads cases of whole runs, and prints what each run wrote and how it ended. A case begins with a
-//! line `=== NAME` and what `plan.rt` reads behind it; then come the lines of its script. Behind a
-//! line `--- again` stands the script of a further run over the same store. What is expected stands
-//! in `stdout`.
+//! line `=== NAME` and behind the name what `plan.rt` reads and the words of its run; then come the
+//! lines of its script. Behind a line `--- again` stands the script of a further run over the same
+//! store. What is expected stands in `stdout`.
 #![tactic(auto)]
 
 mod plan;
@@ -14,26 +14,29 @@ use script::Scripts;
 use std::io;
 
 fn main(rt: HostRuntime) -> io::Result<()> {
-    let mut plan = None;
-    let mut scripts = Scripts::new(rt.alloc());
+    let mut case = None;
     for line in rt.lines(rt.alloc()) {
         let line = line?;
         let text = line.as_str();
         if let Some(header) = text.strip_prefix("=== ") {
-            show(&rt, plan, scripts)?;
+            show(&rt, case)?;
             println!(rt; "{text}")?;
-            plan = Some(Plan::of(header));
-            scripts = Scripts::new(rt.alloc());
-        } else if let Err(NoMemory) = scripts.add(rt.alloc(), text) {
-            println!(rt; "no memory")?;
+            let Ok(scripts) = Scripts::new(rt.alloc(), header) else {
+                return println!(rt; "no memory");
+            };
+            case = Some((Plan::of(header), scripts));
+        } else if let Some((_, scripts)) = &mut case {
+            if let Err(NoMemory) = scripts.add(rt.alloc(), text) {
+                println!(rt; "no memory")?;
+            }
         }
     }
-    show(&rt, plan, scripts)
+    show(&rt, case)
 }
 
 // Runs a case, and prints what came of it.
-fn show(rt: &HostRuntime, plan: Option<Plan>, scripts: Scripts) -> io::Result<()> {
-    let Some(plan) = plan else {
+fn show(rt: &HostRuntime, case: Option<(Plan, Scripts)>) -> io::Result<()> {
+    let Some((plan, scripts)) = case else {
         return Ok(());
     };
     match runs::told(rt.alloc(), plan, scripts) {

@@ -17,13 +17,11 @@ pub(crate) enum Failing {
 
 /// What stands behind a case's name: `piece=N`, the greatest piece of the source and the sink;
 /// `read=N` or `write=N`, the call that fails, or `each_read` or `each_write`, where one after the
-/// other fails until none does; `word`, for a run that is given a word; `steady`, for a source and
-/// a sink that never fail.
+/// other fails until none does; `steady`, for a source and a sink that never fail.
 #[derive(Clone, Copy, Debug)]
 pub(crate) struct Plan {
     pub(crate) piece: usize,
     pub(crate) failing: Failing,
-    pub(crate) has_word: bool,
     pub(crate) is_steady: bool,
 }
 
@@ -32,7 +30,6 @@ impl Plan {
         let mut plan = Plan {
             piece: 1 << 16,
             failing: Failing::Nothing,
-            has_word: false,
             is_steady: false,
         };
         for word in header.split_whitespace() {
@@ -47,7 +44,6 @@ impl Plan {
             return Plan {
                 piece: piece as usize,
                 failing: self.failing,
-                has_word: self.has_word,
                 is_steady: self.is_steady,
             };
         }
@@ -64,7 +60,6 @@ impl Plan {
         Plan {
             piece: self.piece,
             failing,
-            has_word: self.has_word || word == "word",
             is_steady: self.is_steady || word == "steady",
         }
     }

@@ -3,7 +3,7 @@ ghost use Rattle.std.specs.Prelude.{◌≡◌, ◌<◌, IfOk};
 ghost use Rattle.gm_program.specs.Store.{HasState};
 
 use crate::plan::{Failing, Plan};
-use crate::script::Scripts;
+use crate::script::{Script, Scripts};
 use gm_base::{NoMemory, Tally, Text};
 use gm_outside::{MemorySink, MemorySource, NoGate, SteadyFolder, SteadySink, SteadySource};
 use gm_program::{Status, Store, run};
@@ -33,7 +33,7 @@ pub(crate) fn told(alloc: Global, plan: Plan, scripts: Scripts) -> Result<Vec<u8
 }
 
 // The scripts run one after the other over one store, until a run isn't done.
-fn told_once(alloc: Global, plan: Plan, scripts: &[Vec<u8>]) -> Result<Vec<u8>, NoMemory> {
+fn told_once(alloc: Global, plan: Plan, scripts: &[Script]) -> Result<Vec<u8>, NoMemory> {
     let mut told = Vec::new(alloc);
     let mut store = Store::new(alloc, MapTable::new(alloc));
     for script in scripts {
@@ -51,7 +51,7 @@ fn told_once(alloc: Global, plan: Plan, scripts: &[Vec<u8>]) -> Result<Vec<u8>, 
 fn told_each(
     alloc: Global,
     plan: Plan,
-    scripts: &[Vec<u8>],
+    scripts: &[Script],
     reads: bool,
 ) -> Result<Vec<u8>, NoMemory> {
     let mut told = Vec::new(alloc);
@@ -82,7 +82,7 @@ fn told_each(
 fn run_once(
     alloc: Global,
     plan: Plan,
-    script: &[u8],
+    script: &Script,
     failing: Failing,
     store: &mut Store<MapTable>,
 ) -> Result<Ended, NoMemory>
@@ -90,12 +90,18 @@ fn run_once(
     ensures kept { IfOk result (λ ended. ended.status ≡ Status.Done
         → HasState store.new.types (⟦<MapTable as Sorted>⟧.rows store.new.table)) }
 {
-    let words = words_of(alloc, plan)?;
-    let script = script.to_vec(alloc)?;
+    let bytes = script.bytes.to_vec(alloc)?;
     if plan.is_steady {
-        run_steady(alloc, &words, script, store)
+        run_steady(alloc, &script.words, bytes, store)
     } else {
-        run_in_pieces(alloc, &words, script, plan.piece.max(1), failing, store)
+        run_in_pieces(
+            alloc,
+            &script.words,
+            bytes,
+            plan.piece.max(1),
+            failing,
+            store,
+        )
     }
 }
 
@@ -177,15 +183,6 @@ fn one(alloc: Global, number: u64) -> Result<Vec<u64>, NoMemory> {
     let mut list = Vec::new(alloc);
     list.push(number)?;
     Ok(list)
-}
-
-// The words of the run.
-fn words_of(alloc: Global, plan: Plan) -> Result<Vec<Text>, NoMemory> {
-    let mut words = Vec::new(alloc);
-    if plan.has_word {
-        words.push(Text::from_str(alloc, "--threads")?)?;
-    }
-    Ok(words)
 }
 
 // Appends what a run wrote, and how it ended.
