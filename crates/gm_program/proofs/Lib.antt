@@ -5,7 +5,11 @@ pub mod Changing
 pub mod Collected
 pub mod Cutting
 pub mod Exchanging
+pub mod Found
 pub mod Inside
+pub mod Joins
+pub mod Making
+pub mod Numbers
 pub mod Opening
 pub mod Parts
 pub mod Planned

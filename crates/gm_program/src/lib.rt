@@ -2,14 +2,20 @@
 #![tactic(auto)]
 
 mod execute;
+mod generator;
+mod number;
+mod options;
 mod pending;
+mod quiet;
 mod script;
 mod serve;
 mod setting;
 mod status;
 mod stop;
 mod store;
+mod words;
 
+pub use generator::generated;
 pub use script::run;
 pub use status::Status;
 pub use store::Store;
