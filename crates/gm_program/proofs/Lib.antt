@@ -1,4 +1,5 @@
 pub mod Answering
+pub mod Asked
 pub mod Bound
 pub mod Causes
 pub mod Changing

@@ -17,7 +17,7 @@ use Rattle.gm_program.specs.Machine.{Machine, machine_at, after, replies, examin
 use Rattle.gm_program.specs.Running.{Loads, made_output}
 use Rattle.gm_program.specs.Serving.{Moment, moment, KeptAt, Goes, Serves, Closes, closing, Writes, WritesPart}
 use Rattle.gm_program.proofs.Cutting.{partial_from-append}
-use Rattle.gm_program.proofs.Streaming.{after-append, closes_on, lines_of-append}
+use Rattle.gm_program.proofs.Streaming.{closes_on, closing-append, lines_of-append, part_behind, part_of_more, part_same}
 
 -- ---- the part that stores ends with the end of a line
 -- nothing comes after the last line end, whatever was before
@@ -61,6 +61,9 @@ loading_ended seed count =
     ∙ ap (λ held. partial_from held (put_lines count 1 seed)) (line_ended (codes "create gen name:String:index=true,n:Integer,dtg:Date,*geom:Point") [])
     ∙ puts_ended count 1 seed
 
+pub serves_as : (p : Setting) (m : Machine) (xs ys : List (List ℕ)) (a b : Moment) → xs ≡ ys → Serves p m xs a b → Serves p m ys a b
+serves_as p m xs ys a b is serves = subst (λ lines. Serves p m lines a b) is serves
+
 -- ---- lines of two scripts, the first of which ends with the end of a line
 lines_whole : (xs : List ℕ) → partial_from [] xs ≡ [] → lines_of xs ≡ complete_from [] xs
 lines_whole xs ended = ap (λ held. complete_from [] xs ++ last_line held) ended ∙ append-nil (complete_from [] xs)
@@ -80,20 +83,44 @@ made_lines seed count = lines_both (loading seed count) counting (loading_ended 
 
 -- ---- the machine between the parts
 machine_is : (m : Machine) → m ≡ machine_at m.state
-machine_is (record { state = s; pending = Nothing }) = refl
+machine_is m = nothing_waits m.state m.pending
+  where
+    nothing_waits : (s : State) (pending : Pending) → ◌≡◌ {A = Machine} (record { state = s; pending = pending }) (machine_at s)
+    nothing_waits s Nothing = refl
 
 -- after the first part nothing is waited for
 pub loaded : (p : Setting) (s : State) (script : List ℕ) → after p (machine_at s) (lines_of script) ≡ machine_at (state_after p s script)
 loaded p s script = machine_is (after p (machine_at s) (lines_of script))
 
 -- ---- what is not written
-unheard : Moment → Moment
+abbrev pub unheard : Moment → Moment
 unheard now = moment now.types now.rows now.pending now.tally None
 
 closes_unheard : (p : Setting) (m : Machine) (lines : List (List ℕ)) (b c : Moment) → Closes p m lines b c → Closes p m lines (unheard b) (unheard c)
-unfolding unheard
 closes_unheard p m lines b c closes = record { keeps = closes.keeps; tally = closes.tally; written = λ before is. absurd (none-some before is) }
 
+-- ---- a script at hand
+-- all lines that are ended, and then the last and the end
+pub whole_served : (p : Setting) (m : Machine) (script : List ℕ) (a b c : Moment) → Serves p m (complete_from [] script) a b
+    → Closes p (after p m (complete_from [] script)) (last_line (partial_from [] script)) b c → Closes p m (lines_of script) a c
+whole_served p m script a b c one two = closes_on p m (complete_from [] script) (last_line (partial_from [] script)) a b c one two
+
+-- a part of the replies to the lines that are ended
+pub part_of_whole : (p : Setting) (m : Machine) (script : List ℕ) (w0 w1 : Option (List ℕ)) → WritesPart (replies p m (complete_from [] script)) w0 w1
+    → WritesPart (closing p m (lines_of script)) w0 w1
+part_of_whole p m script w0 w1 part =
+    part_same _ _ _ _ (closing-append p m (complete_from [] script) (last_line (partial_from [] script)))
+    (part_of_more (replies p m (complete_from [] script)) (closing p (after p m (complete_from [] script)) (last_line (partial_from [] script))) w0 w1 part)
+
+-- all of them, and a part of what comes then
+pub part_at_end : (p : Setting) (m : Machine) (script : List ℕ) (a b : Moment) (w : Option (List ℕ)) → Serves p m (complete_from [] script) a b
+    → WritesPart (closing p (after p m (complete_from [] script)) (last_line (partial_from [] script))) b.written w
+    → WritesPart (closing p m (lines_of script)) a.written w
+part_at_end p m script a b w one part =
+    part_same _ _ _ _ (closing-append p m (complete_from [] script) (last_line (partial_from [] script)))
+    (part_behind (replies p m (complete_from [] script)) (closing p (after p m (complete_from [] script)) (last_line (partial_from [] script))) a.written b.written w one.written part)
+
+-- ---- both parts
 -- both parts were served, the first without a word
 pub loads : (p : Setting) (s : State) (made : Made) (a b c : Moment) (flushed : ℕ)
     → KeptAt (machine_at s) a
@@ -101,7 +128,6 @@ pub loads : (p : Setting) (s : State) (made : Made) (a b c : Moment) (flushed : 
     → ((m : Machine) → KeptAt m b → Closes p m (lines_of counting) b c)
     → ((bytes : List ℕ) → c.written ≡ Some bytes → flushed ≡ length bytes)
     → Loads p s made c.types c.rows a.tally c.tally b.written c.written flushed
-unfolding unheard
 loads p s made a b c flushed kept first second all =
     let m = after p (machine_at s) (lines_of (loading made.seed made.count)) in
     let closes : Closes p m (lines_of counting) b c = second m first.keeps in
@@ -121,7 +147,6 @@ pub part_heard : (p : Setting) (s : State) (made : Made) (b : Moment) (a : Momen
     → Serves p (machine_at s) (lines_of (loading made.seed made.count)) a (unheard b)
     → ((m : Machine) → KeptAt m b → WritesPart (closing p m (lines_of counting)) b.written w)
     → WritesPart (made_output p s made) b.written w
-unfolding unheard
 part_heard p s made b a w first second =
     let m = after p (machine_at s) (lines_of (loading made.seed made.count)) in
     subst (λ n. WritesPart (closing p n (lines_of counting)) b.written w) (loaded p s (loading made.seed made.count)) (second m first.keeps)
