@@ -76,6 +76,14 @@ options_from (Some generate) = Some (record { generate = generate })
 abbrev pub options_of : List Text → Option Options
 options_of words = if has_fault words then None else options_from (generate_value (value_of (codes "generate") words))
 
+-- the source's script
+abbrev pub plain_options : Options
+plain_options = record { generate = None }
+
+-- a script by this seed, of so many features
+abbrev pub made_options : ℕ → ℕ → Options
+made_options seed count = record { generate = Some (record { seed = seed; count = count }) }
+
 -- the options are those of the words, and Usage comes only where there are none
 abbrev pub Reads : Option Options → Result Options WordsFault → Type 0
 Reads options (Ok read) = options ≡ Some read

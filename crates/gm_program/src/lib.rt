@@ -3,6 +3,7 @@
 
 mod execute;
 mod generator;
+mod laws;
 mod number;
 mod options;
 mod pending;
@@ -16,6 +17,7 @@ mod store;
 mod words;
 
 pub use generator::generated;
+pub use laws::{faulty_words_have_no_options, words_have_options};
 pub use script::run;
 pub use status::Status;
 pub use store::Store;
