@@ -1,11 +1,16 @@
 pub mod Answering
+pub mod Asked
 pub mod Bound
 pub mod Causes
 pub mod Changing
 pub mod Collected
 pub mod Cutting
 pub mod Exchanging
+pub mod Found
 pub mod Inside
+pub mod Joins
+pub mod Making
+pub mod Numbers
 pub mod Opening
 pub mod Parts
 pub mod Planned

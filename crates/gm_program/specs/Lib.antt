@@ -6,6 +6,8 @@ pub mod Step
 pub mod Refusals
 pub mod Machine
 pub mod Serving
+pub mod Usage
+pub mod Generator
 pub mod Running
 pub mod Statuses
 pub mod Collecting

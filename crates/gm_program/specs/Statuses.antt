@@ -33,3 +33,8 @@ stop_from refusal.NoMemory = stop.NoMemory
 abbrev pub status_from : Result ⊤ Stop → Status
 status_from (Ok _) = status.Done
 status_from (Err error) = of_stop error
+
+-- the status of a run whose made script ended so
+abbrev pub made_status : Result ⊤ SinkRefusal → Status
+made_status (Ok _) = status.Done
+made_status (Err refusal) = of_stop (stop_from refusal)

@@ -2,14 +2,22 @@
 #![tactic(auto)]
 
 mod execute;
+mod generator;
+mod laws;
+mod number;
+mod options;
 mod pending;
+mod quiet;
 mod script;
 mod serve;
 mod setting;
 mod status;
 mod stop;
 mod store;
+mod words;
 
+pub use generator::generated;
+pub use laws::{faulty_words_have_no_options, words_have_options};
 pub use script::run;
 pub use status::Status;
 pub use store::Store;

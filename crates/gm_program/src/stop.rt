@@ -1,6 +1,6 @@
 // Why serving ends before the script does.
 ghost use Rattle.std.specs.Prelude.{◌≡◌};
-ghost use Rattle.gm_program.specs.Statuses.{status_from, stop_from};
+ghost use Rattle.gm_program.specs.Statuses.{made_status, status_from, stop_from};
 
 use crate::Status;
 use gm_outside::SinkRefusal;
@@ -33,5 +33,16 @@ pub(crate) fn status_of(outcome: Result<(), Stop>) -> Status
         Err(Stop::ReadFault) => Status::ReadFault,
         Err(Stop::WriteFault) => Status::WriteFault,
         Err(Stop::TooLong) => Status::TooLong,
+    }
+}
+
+/// The status of a run whose made script ended so.
+pub(crate) fn status_of_made(outcome: Result<(), SinkRefusal>) -> Status
+    ensures { result ≡ made_status outcome }
+{
+    match outcome {
+        Ok(()) => Status::Done,
+        Err(SinkRefusal::Failed) => Status::WriteFault,
+        Err(SinkRefusal::NoMemory) => Status::NoMemory,
     }
 }
