@@ -5,6 +5,7 @@ pub mod Changing
 pub mod Collected
 pub mod Cutting
 pub mod Exchanging
+pub mod Giving
 pub mod Inside
 pub mod Opening
 pub mod Parts

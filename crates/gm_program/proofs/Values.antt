@@ -1,6 +1,7 @@
 -- Features with another value in a place.
-use Rattle.std.proofs.Common.{◌≡◌, ℕ, zero, suc, Bool, true, false, true≢false, not, ◌&&◌, ◌||◌, List, [], ◌∷◌, length, Option, Some, None, refl, sym, ap, subst, ◌∙◌}
+use Rattle.std.proofs.Common.{◌≡◌, ◌<◌, ℕ, zero, suc, Bool, true, false, true≢false, not, ◌&&◌, ◌||◌, List, [], ◌∷◌, length, Option, Some, None, refl, sym, ap, subst, ◌∙◌, arith}
 use Rattle.std.specs.Prelude.{slice_get, slice_set, get_or, ◌==◌}
+use Rattle.std.proofs.lemmas.Option.{slice_get_within}
 use Rattle.gm_calendar.specs.declared.period.Period.{Period}
 use Rattle.gm_types.specs.declared.kind.Kind.{Kind}
 use Rattle.gm_types.specs.Specification.{Specification, kinds_of, default_date_of, period_of}
@@ -58,3 +59,17 @@ value_given t f place v fits takes = record {
   each = set_fits (kinds_of t) f.values place takes.holds.kind v fits.each takes.holds.there takes.holds.fits;
   date = set_dates (has_time_index t) (period_of t) (default_date_of t) f.values place v takes.dated fits.date;
 }
+
+-- there are as many values as kinds
+as_many : (kinds : List Kind) (values : List Value) → values_fit kinds values ≡ true → length kinds ≡ length values
+as_many [] [] fit = refl
+as_many [] (x ∷ xs) fit = absurd (true≢false (sym fit))
+as_many (c ∷ cs) [] fit = absurd (true≢false (sym fit))
+as_many (c ∷ cs) (x ∷ xs) fit =
+    let rest = as_many cs xs (first_so (value_fits c x) (values_fit cs xs) fit).1 in
+    omega (arith, rest)
+
+-- so there is a value in a place that may take another
+pub has_place : (t : Specification) (f : Feature) (place : ℕ) (v : Value) → Fits t f → MayTake t place v → place < length f.values
+has_place t f place v fits takes =
+    omega (arith, slice_get_within (kinds_of t) place takes.holds.kind takes.holds.there, as_many (kinds_of t) f.values fits.each)
