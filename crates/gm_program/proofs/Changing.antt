@@ -62,7 +62,7 @@ pub length-puts : (t : Specification) (f : Feature) → length (puts_of t (Some 
 length-puts t f = length-map _ _
 
 -- there is room where the rows and the puts are no more than the limit and what is freed
-room_is : (after before freed put : ℕ) → after + freed ≡ before + put → nat_le (before + put) (2000000 + freed) ≡ not (nat_lt 2000000 after)
+pub room_is : (after before freed put : ℕ) → after + freed ≡ before + put → nat_le (before + put) (2000000 + freed) ≡ not (nat_lt 2000000 after)
 room_is after before freed put counted = grind (arith, nat_tests)
 
 pub has_room_as_told : Counted → (s : State) (n : ℕ) (t : Specification) (id : List ℕ) (old new : Option Feature) (before put : ℕ) → IsState s → type_at n s ≡ Some t → ForSome new (IsHeld t id)

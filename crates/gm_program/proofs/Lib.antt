@@ -7,6 +7,7 @@ pub mod Collected
 pub mod Cutting
 pub mod Exchanging
 pub mod Found
+pub mod Giving
 pub mod Inside
 pub mod Joins
 pub mod Making

@@ -1,7 +1,6 @@
 use Rattle.std.proofs.Common.{◌≡◌, map}
 use Rattle.gm_program.specs.Step.{given}
-use Rattle.gm_program.proofs.Values.{value_given}
 use Rattle.gm_program.proofs.execute.modify.changes.Given as goal
 
 abbrev pub invariant-features : goal.invariant-features
-invariant-features l = l.exchanges.items ≡ map (given l.fn.place l.fn.value.now) l.yielded
+invariant-features l = l.exchanges.items ≡ map (given l.place l.value) l.yielded

@@ -3,4 +3,4 @@ use Rattle.gm_engine_rows.specs.Exchange.{old_keys}
 use Rattle.gm_program.proofs.execute.modify.has_room.Given as goal
 
 abbrev pub invariant-exchanges : goal.invariant-exchanges
-invariant-exchanges l = l.over ≡ (l.fn.rows + l.fn.puts) - (2000000 + length (old_keys l.fn.of.now (take l.exchange-index l.fn.exchanges.now)))
+invariant-exchanges l = l.over ≡ (l.rows + l.puts) - (2000000 + length (old_keys l.of (take l.exchange-index l.exchanges)))
