@@ -4,10 +4,10 @@ ghost use Rattle.gm_program.specs.Store.{HasState};
 
 use crate::plan::{Failing, Plan};
 use crate::script::{Script, Scripts};
-use gm_base::{NoMemory, Tally, Text};
+use gm_base::{Counter, NoMemory, Tally, Text};
 use gm_outside::{MemorySink, MemorySource, NoGate, SteadyFolder, SteadySink, SteadySource};
 use gm_program::{Status, Store, run};
-use gm_table::{MapTable, Sorted};
+use gm_table::{BlockTable, MapTable, Sorted};
 use std::alloc::Global;
 
 /// No case has as many calls of a device.
@@ -32,12 +32,32 @@ pub(crate) fn told(alloc: Global, plan: Plan, scripts: Scripts) -> Result<Vec<u8
     }
 }
 
-// The scripts run one after the other over one store, until a run isn't done.
+// The scripts run over both kinds of table. What is told of the one is told of the other.
 fn told_once(alloc: Global, plan: Plan, scripts: &[Script]) -> Result<Vec<u8>, NoMemory> {
+    let mut over_map = Store::new(alloc, MapTable::new(alloc));
+    let mut told = told_over(alloc, plan, scripts, &mut over_map, &mut Tally::new())?;
+    let mut over_blocks = Store::new(alloc, BlockTable::new(alloc));
+    let other = told_over(alloc, plan, scripts, &mut over_blocks, &mut Tally::new())?;
+    if told.as_slice() != other.as_slice() {
+        told.extend_from_slice(b"over blocks:\n")?;
+        told.extend_from_slice(&other)?;
+    }
+    Ok(told)
+}
+
+// The scripts run one after the other over one store, until a run isn't done.
+fn told_over<B: Sorted + Sync>(
+    alloc: Global,
+    plan: Plan,
+    scripts: &[Script],
+    store: &mut Store<B>,
+    tally: &mut B::Tally,
+) -> Result<Vec<u8>, NoMemory>
+    requires kept { HasState store.old.types (B.rows store.old.table) }
+{
     let mut told = Vec::new(alloc);
-    let mut store = Store::new(alloc, MapTable::new(alloc));
     for script in scripts {
-        let ended = run_once(alloc, plan, script, plan.failing, &mut store)?;
+        let ended = run_once(alloc, plan, script, plan.failing, store, tally)?;
         tell(alloc, &mut told, &ended)?;
         if ended.status != Status::Done {
             return Ok(told);
@@ -65,7 +85,7 @@ fn told_each(
             Failing::Write(call)
         };
         let mut store = Store::new(alloc, MapTable::new(alloc));
-        let ended = run_once(alloc, plan, script, failing, &mut store)?;
+        let ended = run_once(alloc, plan, script, failing, &mut store, &mut Tally::new())?;
         let lines = ended.written.iter().filter(|byte| **byte == b'\n').count();
         let bytes = ended.written.len();
         let status = ended.status.number();
@@ -78,47 +98,42 @@ fn told_each(
     Ok(told)
 }
 
-// One run over the store, with a new tally.
-fn run_once(
+// One run over the store. Its rows are those by which the tally rises.
+fn run_once<B: Sorted + Sync>(
     alloc: Global,
     plan: Plan,
     script: &Script,
     failing: Failing,
-    store: &mut Store<MapTable>,
+    store: &mut Store<B>,
+    tally: &mut B::Tally,
 ) -> Result<Ended, NoMemory>
-    requires kept { HasState store.old.types (⟦<MapTable as Sorted>⟧.rows store.old.table) }
+    requires kept { HasState store.old.types (B.rows store.old.table) }
     ensures kept { IfOk result (λ ended. ended.status ≡ Status.Done
-        → HasState store.new.types (⟦<MapTable as Sorted>⟧.rows store.new.table)) }
+        → HasState store.new.types (B.rows store.new.table)) }
 {
     let bytes = script.bytes.to_vec(alloc)?;
     if plan.is_steady {
-        run_steady(alloc, &script.words, bytes, store)
+        run_steady(alloc, &script.words, bytes, store, tally)
     } else {
-        run_in_pieces(
-            alloc,
-            &script.words,
-            bytes,
-            plan.piece.max(1),
-            failing,
-            store,
-        )
+        run_in_pieces(alloc, &script.words, bytes, plan.piece.max(1), failing, store, tally)
     }
 }
 
 // Over a source and a sink that never fail.
-fn run_steady(
+fn run_steady<B: Sorted + Sync>(
     alloc: Global,
     words: &[Text],
     script: Vec<u8>,
-    store: &mut Store<MapTable>,
+    store: &mut Store<B>,
+    tally: &mut B::Tally,
 ) -> Result<Ended, NoMemory>
-    requires kept { HasState store.old.types (⟦<MapTable as Sorted>⟧.rows store.old.table) }
+    requires kept { HasState store.old.types (B.rows store.old.table) }
     ensures kept { IfOk result (λ ended. ended.status ≡ Status.Done
-        → HasState store.new.types (⟦<MapTable as Sorted>⟧.rows store.new.table)) }
+        → HasState store.new.types (B.rows store.new.table)) }
 {
     let mut source = SteadySource::new(script);
     let mut sink = SteadySink::new(alloc);
-    let mut tally = Tally::new();
+    let before = tally.rows();
     let status = run(
         alloc,
         words,
@@ -127,31 +142,31 @@ fn run_steady(
         &mut SteadyFolder,
         &NoGate,
         store,
-        &mut tally,
+        tally,
     );
-    let rows = tally.close();
     let written = sink.bytes().to_vec(alloc)?;
     let flushed = written.len();
     Ok(Ended {
         status,
-        rows,
+        rows: tally.rows().saturating_sub(before),
         written,
         flushed,
     })
 }
 
 // Over a source and a sink that take at most so many bytes at a time, and fail as is said.
-fn run_in_pieces(
+fn run_in_pieces<B: Sorted + Sync>(
     alloc: Global,
     words: &[Text],
     script: Vec<u8>,
     piece: usize,
     failing: Failing,
-    store: &mut Store<MapTable>,
+    store: &mut Store<B>,
+    tally: &mut B::Tally,
 ) -> Result<Ended, NoMemory>
-    requires kept { HasState store.old.types (⟦<MapTable as Sorted>⟧.rows store.old.table) }
+    requires kept { HasState store.old.types (B.rows store.old.table) }
     ensures kept { IfOk result (λ ended. ended.status ≡ Status.Done
-        → HasState store.new.types (⟦<MapTable as Sorted>⟧.rows store.new.table)) }
+        → HasState store.new.types (B.rows store.new.table)) }
 {
     let (reads, writes) = match failing {
         Failing::Read(call) => (one(alloc, call)?, Vec::new(alloc)),
@@ -160,7 +175,7 @@ fn run_in_pieces(
     };
     let mut source = MemorySource::new(script, piece, reads);
     let mut sink = MemorySink::new(alloc, piece, writes);
-    let mut tally = Tally::new();
+    let before = tally.rows();
     let status = run(
         alloc,
         words,
@@ -169,11 +184,11 @@ fn run_in_pieces(
         &mut SteadyFolder,
         &NoGate,
         store,
-        &mut tally,
+        tally,
     );
     Ok(Ended {
         status,
-        rows: tally.close(),
+        rows: tally.rows().saturating_sub(before),
         written: sink.bytes().to_vec(alloc)?,
         flushed: sink.flushed(),
     })

@@ -5,7 +5,7 @@
 use gm_base::{Tally, Text};
 use gm_outside::{NoGate, SteadyFolder, StreamSink, StreamSource};
 use gm_program::{Status, Store, run};
-use gm_table::MapTable;
+use gm_table::BlockTable;
 use std::alloc::Global;
 use std::env::Env;
 use std::process::ExitCode;
@@ -38,7 +38,7 @@ fn words_of(rt: &(impl Env + AllocGlobal), alloc: Global) -> Result<Vec<Text>, S
 fn serve<R: Input + Print>(rt: &R, alloc: Global, words: &[Text]) -> Status {
     let mut source = StreamSource::new(rt.reader());
     let mut sink = StreamSink::new(io::writer(rt));
-    let mut store = Store::new(alloc, MapTable::new(alloc));
+    let mut store = Store::new(alloc, BlockTable::new(alloc));
     let mut tally = Tally::new();
     let status = run(
         alloc,
