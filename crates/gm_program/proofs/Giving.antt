@@ -1,5 +1,5 @@
 -- What the features of a filter make of a store where they have another value.
-use Rattle.std.proofs.Common.{◌≡◌, ◌≤◌, ◌<◌, ◌+◌, ℕ, Bool, true, false, not, List, [], ◌∷◌, ◌++◌, map, length, length-append, Option, Some, None, refl, sym, ap, subst, ◌∙◌, arith}
+use Rattle.std.proofs.Common.{◌≡◌, ◌+◌, ℕ, Bool, true, false, not, List, [], ◌∷◌, map, length, length-append, Option, Some, None, refl, sym, ap, subst, ◌∙◌}
 use Rattle.std.specs.Prelude.{All, nat_le, if◌then◌else◌}
 use Rattle.std.proofs.lemmas.List.Elements.{All-from_recursion}
 use Rattle.gm_base.specs.Counter.{capped_sum}
@@ -26,7 +26,7 @@ use Rattle.gm_program.specs.Step.{refused, plain, with_value, given, modified, m
 use Rattle.gm_program.specs.Store.{Types, Holds, IsTypeOf}
 use Rattle.gm_program.proofs.Answering.{each_as}
 use Rattle.gm_program.proofs.Bound.{same_some}
-use Rattle.gm_program.proofs.Changing.{Same, Rising, length-puts, room_is, few_from_room, true_from_not, false_from_not}
+use Rattle.gm_program.proofs.Changing.{Same, Rising, length-puts, room_is, few_from_room}
 use Rattle.gm_program.proofs.Exchanging.{FollowsAll, CountedAll, KeepsAll, SameTypesAll, IsBoundIn, GivesHeld, answer_bound, exchanges_in, owners_apart, rows_after_all, holds_exchanged}
 use Rattle.gm_program.proofs.Planned.{are_named, step_answered}
 use Rattle.gm_program.proofs.Values.{value_given}

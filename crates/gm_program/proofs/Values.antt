@@ -9,12 +9,12 @@ use Rattle.gm_types.specs.Specification.{Specification, kinds_of, default_date_o
 use Rattle.gm_feature.specs.declared.feature.Feature.{Feature}
 use Rattle.gm_feature.specs.declared.value.Value.{Value}
 use Rattle.gm_feature.specs.declared.value.Value.TheVariants.{Null}
-use Rattle.gm_feature.specs.Feature.{Fits, values_fit, has_bin, date_has_bin, has_time_index, dates_fit}
+use Rattle.gm_feature.specs.Feature.{Fits, values_fit, has_bin, date_has_bin, has_time_index}
 use Rattle.gm_feature.specs.Value.{value_fits}
-use Rattle.gm_script.specs.Bins.{is_place, keeps_bins}
+use Rattle.gm_script.specs.Bins.{is_place}
 use Rattle.gm_program.specs.Matching.{MayTake}
 use Rattle.gm_program.specs.Step.{with_value}
-use Rattle.gm_program.proofs.Bound.{same_some, none_some}
+use Rattle.gm_program.proofs.Bound.{same_some}
 
 first_so : (a b : Bool) → (a && b) ≡ true → (a ≡ true) × (b ≡ true)
 first_so true b h = (refl, h)
