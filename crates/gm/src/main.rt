@@ -22,8 +22,14 @@ fn main(rt: HostRuntime) -> ExitCode {
 
 // The words after the program's name.
 fn words_of(rt: &(impl Env + AllocGlobal), alloc: Global) -> Result<Vec<Text>, Status> {
-    let Ok(args) = env::args(rt) else {
-        return Err(Status::Usage);
+    let args = match env::args(rt) {
+        Ok(args) => args,
+        Err(error) => {
+            return Err(match error.kind() {
+                io::ErrorKind::OutOfMemory => Status::NoMemory,
+                _ => Status::Usage,
+            });
+        }
     };
     let mut words = Vec::new(alloc);
     for word in args.skip(1) {

@@ -92,6 +92,15 @@ machine_is m = nothing_waits m.state m.pending
 pub loaded : (p : Setting) (s : State) (script : List ℕ) → after p (machine_at s) (lines_of script) ≡ machine_at (state_after p s script)
 loaded p s script = machine_is (after p (machine_at s) (lines_of script))
 
+-- the output of both parts is that of the first, and then that of the second
+pub output_in_parts : (p : Setting) (s : State) (made : Made) → output p s (generated_script made.seed made.count)
+    ≡ replies p (machine_at s) (lines_of (loading made.seed made.count)) ++ made_output p s made
+output_in_parts p s made =
+    let first = lines_of (loading made.seed made.count) in
+    ap (closing p (machine_at s)) (made_lines made.seed made.count)
+    ∙ sym (closing-append p (machine_at s) first (lines_of counting))
+    ∙ ap (λ m. replies p (machine_at s) first ++ closing p m (lines_of counting)) (loaded p s (loading made.seed made.count))
+
 -- ---- what is not written
 abbrev pub unheard : Moment → Moment
 unheard now = moment now.types now.rows now.pending now.tally None

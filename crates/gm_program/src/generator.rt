@@ -42,7 +42,10 @@ pub(crate) fn loading(alloc: Global, seed: u64, count: u32) -> Result<String, No
     ensures { IfOk result (λ script. string_bytes script ≡ spec.loading seed count) }
 {
     let mut script = String::new(alloc);
-    append(&mut script, "create gen name:String:index=true,n:Integer,dtg:Date,*geom:Point\n")?;
+    append(
+        &mut script,
+        "create gen name:String:index=true,n:Integer,dtg:Date,*geom:Point\n",
+    )?;
     append_puts(alloc, &mut script, seed, count)?;
     Ok(script)
 }
@@ -71,7 +74,10 @@ fn append_counts(script: &mut String) -> Result<(), NoMemory>
     append(script, "count gen BBOX(geom,-10,-10,10,10)\n")?;
     append(script, "count gen index=id BBOX(geom,-10,-10,10,10)\n")?;
     append(script, "count gen target=1 BBOX(geom,-10,-10,10,10)\n")?;
-    append(script, "count gen BBOX(geom,-90,-45,90,45) AND dtg DURING 2020-03-01T00:00:00Z/2020-04-01T00:00:00Z\n")?;
+    append(
+        script,
+        "count gen BBOX(geom,-90,-45,90,45) AND dtg DURING 2020-03-01T00:00:00Z/2020-04-01T00:00:00Z\n",
+    )?;
     append(script, "count gen name = 'n7'\n")?;
     append(script, "count gen name = 'n7' OR IN ('g1','g2')\n")?;
     append(script, "count gen n < 10\n")?;
@@ -79,12 +85,7 @@ fn append_counts(script: &mut String) -> Result<(), NoMemory>
 }
 
 // The puts of so many features, numbered from 1.
-fn append_puts(
-    alloc: Global,
-    script: &mut String,
-    seed: u64,
-    count: u32,
-) -> Result<(), NoMemory>
+fn append_puts(alloc: Global, script: &mut String, seed: u64, count: u32) -> Result<(), NoMemory>
     ensures { IfOk result (λ _. string_bytes script.new
         ≡ string_bytes script.old ++ spec.put_lines count 1 seed) }
 {

@@ -17,7 +17,7 @@ mod store;
 mod words;
 
 pub use generator::generated;
-pub use laws::{faulty_words_have_no_options, words_have_options};
+pub use laws::{faulty_words_have_no_options, loading_is_left_out, words_have_options};
 pub use script::run;
 pub use status::Status;
 pub use store::Store;

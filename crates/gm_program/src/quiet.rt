@@ -60,7 +60,9 @@ pub(crate) fn serve_quietly<B: Sorted>(
     ensures kept { OnOk result (HasMachine store.new.types (B.rows store.new.table) pending.new) }
 {
     let mut held = Vec::new(alloc);
-    match serve_piece(alloc, setting, bytes, &mut held, &mut Quiet, store, pending, tally) {
+    match serve_piece(
+        alloc, setting, bytes, &mut held, &mut Quiet, store, pending, tally,
+    ) {
         Ok(()) => Ok(()),
         Err(_refusal) => Err(NoMemory),
     }

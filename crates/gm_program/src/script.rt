@@ -11,8 +11,6 @@ ghost use Rattle.gm_program.specs.Store.{Holds, HasState};
 ghost use Rattle.gm_program.specs.Serving.{moment, Keeps, HasMachine, Serves, Closes, closing, WritesPart, Streams, Breaks, Stopped, HasCause};
 ghost use Rattle.gm_program.specs.Usage.{options_of};
 
-use crate::Status;
-use crate::generator;
 use crate::options::{Made, WordsFault};
 use crate::pending::Pending;
 use crate::quiet::serve_quietly;
@@ -21,6 +19,7 @@ use crate::setting::{PLAIN, Setting};
 use crate::stop::{Stop, status_of, status_of_made, stop_of};
 use crate::store::Store;
 use crate::words::read_words;
+use crate::{Status, generator};
 use gm_base::{NoMemory, Text};
 use gm_outside::{Failed, Folder, Gate, Sink, SinkRefusal, Source};
 use gm_table::Sorted;
@@ -313,9 +312,9 @@ fn serve_whole<K: Sink, B: Sorted>(
     ensures later { K.faults sink.old ≤ K.faults sink.new }
 {
     let mut held = Vec::new(alloc);
-    if let Err(refusal) =
-        serve_piece(alloc, setting, script, &mut held, sink, store, pending, tally)
-    {
+    if let Err(refusal) = serve_piece(
+        alloc, setting, script, &mut held, sink, store, pending, tally,
+    ) {
         return Err(refusal);
     }
     serve_last(alloc, setting, &held, sink, store, pending, tally)

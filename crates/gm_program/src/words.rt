@@ -100,7 +100,10 @@ fn pair_in(text: &str) -> Option<Made>
     match text.split_once(':') {
         None => None,
         Some((seed, count)) => {
-            match (number_in(seed, 0, u64::MAX), number_in(count, 1, COUNT_LIMIT)) {
+            match (
+                number_in(seed, 0, u64::MAX),
+                number_in(count, 1, COUNT_LIMIT),
+            ) {
                 (Some(seed), Some(count)) => Some(Made {
                     seed,
                     count: count as u32,
