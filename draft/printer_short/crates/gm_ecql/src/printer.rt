@@ -1,0 +1,413 @@
+// Filters to texts.
+ghost use Rattle.std.specs.Prelude.{◌≡◌, ◌++◌, ◌∷◌, ℕ, List, map, true, IfOk, OnOk};
+ghost use Rattle.std.specs.Prelude.{encode_utf8_all};
+ghost use Rattle.std.specs.String.{string_bytes};
+ghost use Rattle.std.specs.Fmt.{signed_decimal};
+ghost use Rattle.gm_calendar.specs.Spelling.{instant_text};
+ghost use Rattle.gm_filter.specs.Tree.{tree, trees_of};
+ghost use Rattle.gm_filter.specs.Tree.{compare, between, like, one_of, is_null, during};
+ghost use Rattle.gm_ecql.specs.Printing as spec;
+ghost use Rattle.gm_ecql.specs.Tokens.{doubled};
+
+use crate::keyword::keyword_of;
+use gm_base::{NoMemory, Text};
+use gm_calendar::{Instant, print_instant};
+use gm_filter::{Filter, Literal, Op};
+use gm_geom::{Box2, Geometry, append_fixed};
+use gm_types::FeatureType;
+use std::alloc::Global;
+use std::fmt::Write;
+
+/// The text of a filter.
+pub fn print(alloc: Global, of: &FeatureType, filter: &Filter) -> Result<Text, NoMemory>
+    ensures text { IfOk result (λ text. text ≡ spec.printed of.now (tree filter.now)) }
+{
+    let mut out = String::new(alloc);
+    match filter {
+        Filter::And(members) => append_members(alloc, &mut out, of, " AND ", members)?,
+        Filter::Or(members) => append_members(alloc, &mut out, of, " OR ", members)?,
+        _ => append_inner(alloc, &mut out, of, filter)?,
+    }
+    Ok(Text::from_string(out))
+}
+
+fn append(out: &mut String, text: &str) -> Result<(), NoMemory>
+    ensures { OnOk result (string_bytes out.new ≡ string_bytes out.old ++ text.now) }
+{
+    out.push_str(text)?;
+    Ok(())
+}
+
+// A filter inside another.
+#[cycle(printer)]
+fn append_inner(
+    alloc: Global,
+    out: &mut String,
+    of: &FeatureType,
+    filter: &Filter,
+) -> Result<(), NoMemory>
+    ensures { OnOk result (string_bytes out.new
+        ≡ string_bytes out.old ++ spec.inner of.now (tree filter.now)) }
+{
+    match filter {
+        Filter::Not(negated) => {
+            append(out, "NOT ")?;
+            append_inner(alloc, out, of, negated)
+        }
+        Filter::And(members) => {
+            append(out, "(")?;
+            append_members(alloc, out, of, " AND ", members)?;
+            append(out, ")")?;
+            Ok(())
+        }
+        Filter::Or(members) => {
+            append(out, "(")?;
+            append_members(alloc, out, of, " OR ", members)?;
+            append(out, ")")?;
+            Ok(())
+        }
+        _ => append_test(alloc, out, of, filter),
+    }
+}
+
+#[cycle(printer)]
+fn append_members(
+    alloc: Global,
+    out: &mut String,
+    of: &FeatureType,
+    separator: &str,
+    members: &[Filter],
+) -> Result<(), NoMemory>
+    ensures { OnOk result (string_bytes out.new ≡ string_bytes out.old
+        ++ spec.listed of.now true separator.now (trees_of (map tree members.now))) }
+{
+    let mut first = true;
+    'members: for member in members {
+        if !first {
+            append(out, separator)?;
+        }
+        first = false;
+        append_inner(alloc, out, of, member)?;
+    }
+    Ok(())
+}
+
+// A filter without members. Of one with members nothing.
+fn append_test(
+    alloc: Global,
+    out: &mut String,
+    of: &FeatureType,
+    filter: &Filter,
+) -> Result<(), NoMemory>
+    ensures { OnOk result (string_bytes out.new
+        ≡ string_bytes out.old ++ spec.test_text of.now (tree filter.now)) }
+{
+    match filter {
+        Filter::Include => append(out, "INCLUDE")?,
+        Filter::Exclude => append(out, "EXCLUDE")?,
+        Filter::Ids(texts) => append_ids(out, texts.as_slice())?,
+        Filter::Compare(at, op, literal) => append_compared(alloc, out, of, *at, *op, literal)?,
+        Filter::Between(at, low, high) => append_between(alloc, out, of, *at, low, high)?,
+        Filter::Like(at, pattern) => append_like(out, of, *at, pattern)?,
+        Filter::OneOf(at, literals) => append_one_of(alloc, out, of, *at, literals.as_slice())?,
+        Filter::IsNull(at) => append_null(out, of, *at)?,
+        Filter::Bbox(at, area) => append_box(out, of, *at, area)?,
+        Filter::Intersects(at, geometry) => {
+            append_related(alloc, out, of, "INTERSECTS(", *at, geometry)?;
+        }
+        Filter::Disjoint(at, geometry) => {
+            append_related(alloc, out, of, "DISJOINT(", *at, geometry)?;
+        }
+        Filter::Within(at, geometry) => {
+            append_related(alloc, out, of, "WITHIN(", *at, geometry)?;
+        }
+        Filter::During(at, low, high) => append_during(alloc, out, of, *at, *low, *high)?,
+        Filter::Before(at, end) => append_timed(alloc, out, of, *at, " BEFORE ", *end)?,
+        Filter::After(at, start) => append_timed(alloc, out, of, *at, " AFTER ", *start)?,
+        Filter::Tequals(at, instant) => append_timed(alloc, out, of, *at, " TEQUALS ", *instant)?,
+        Filter::Not(_) | Filter::And(_) | Filter::Or(_) => {}
+    }
+    Ok(())
+}
+
+fn append_compared(
+    alloc: Global,
+    out: &mut String,
+    of: &FeatureType,
+    at: u16,
+    op: Op,
+    literal: &Literal,
+) -> Result<(), NoMemory>
+    ensures { OnOk result (string_bytes out.new
+        ≡ string_bytes out.old ++ spec.test_text of.now (compare at op literal.now)) }
+{
+    append_name(out, of, at)?;
+    append(out, op_text(op))?;
+    append_literal(alloc, out, literal)
+}
+
+fn append_between(
+    alloc: Global,
+    out: &mut String,
+    of: &FeatureType,
+    at: u16,
+    low: &Literal,
+    high: &Literal,
+) -> Result<(), NoMemory>
+    ensures { OnOk result (string_bytes out.new
+        ≡ string_bytes out.old ++ spec.test_text of.now (between at low.now high.now)) }
+{
+    append_name(out, of, at)?;
+    append(out, " BETWEEN ")?;
+    append_literal(alloc, out, low)?;
+    append(out, " AND ")?;
+    append_literal(alloc, out, high)
+}
+
+fn append_like(out: &mut String, of: &FeatureType, at: u16, pattern: &Text) -> Result<(), NoMemory>
+    ensures { OnOk result (string_bytes out.new
+        ≡ string_bytes out.old ++ spec.test_text of.now (like at pattern.now)) }
+{
+    append_name(out, of, at)?;
+    append(out, " LIKE ")?;
+    append_text(out, pattern)
+}
+
+fn append_one_of(
+    alloc: Global,
+    out: &mut String,
+    of: &FeatureType,
+    at: u16,
+    literals: &[Literal],
+) -> Result<(), NoMemory>
+    ensures { OnOk result (string_bytes out.new
+        ≡ string_bytes out.old ++ spec.test_text of.now (one_of at literals.now)) }
+{
+    append_name(out, of, at)?;
+    append(out, " IN (")?;
+    append_literals(alloc, out, literals)?;
+    append(out, ")")
+}
+
+fn append_null(out: &mut String, of: &FeatureType, at: u16) -> Result<(), NoMemory>
+    ensures { OnOk result (string_bytes out.new
+        ≡ string_bytes out.old ++ spec.test_text of.now (is_null at)) }
+{
+    append_name(out, of, at)?;
+    append(out, " IS NULL")
+}
+
+fn append_during(
+    alloc: Global,
+    out: &mut String,
+    of: &FeatureType,
+    at: u16,
+    low: Instant,
+    high: Instant,
+) -> Result<(), NoMemory>
+    ensures { OnOk result (string_bytes out.new
+        ≡ string_bytes out.old ++ spec.test_text of.now (during at low high)) }
+{
+    append_name(out, of, at)?;
+    append(out, " DURING ")?;
+    append_instant(alloc, out, low)?;
+    append(out, "/")?;
+    append_instant(alloc, out, high)
+}
+
+// A name that is a keyword stands in quotes.
+fn append_name(out: &mut String, of: &FeatureType, at: u16) -> Result<(), NoMemory>
+    ensures { OnOk result (string_bytes out.new
+        ≡ string_bytes out.old ++ spec.name_text (spec.name_at of.now at)) }
+{
+    match of.attributes().as_slice().get(at as usize) {
+        None => Ok(()),
+        Some(attribute) => append_word(out, &attribute.name),
+    }
+}
+
+fn append_word(out: &mut String, name: &Text) -> Result<(), NoMemory>
+    ensures { OnOk result (string_bytes out.new ≡ string_bytes out.old ++ spec.name_text name.now) }
+{
+    if keyword_of(name.as_bytes()).is_none() {
+        append(out, name.as_str())?;
+        return Ok(());
+    }
+    append(out, "\"")?;
+    append(out, name.as_str())?;
+    append(out, "\"")?;
+    Ok(())
+}
+
+fn op_text(op: Op) -> &'static str
+    ensures { result.now ≡ spec.op_text op }
+{
+    match op {
+        Op::Eq => " = ",
+        Op::Ne => " <> ",
+        Op::Lt => " < ",
+        Op::Le => " <= ",
+        Op::Gt => " > ",
+        Op::Ge => " >= ",
+    }
+}
+
+fn append_text(out: &mut String, text: &Text) -> Result<(), NoMemory>
+    ensures { OnOk result (string_bytes out.new
+        ≡ string_bytes out.old ++ spec.quoted_text text.now) }
+{
+    append(out, "'")?;
+    append_doubled(out, text.as_str())?;
+    append(out, "'")?;
+    Ok(())
+}
+
+// The text with each quote written twice.
+fn append_doubled(out: &mut String, text: &str) -> Result<(), NoMemory>
+    ensures { OnOk result (string_bytes out.new ≡ string_bytes out.old ++ doubled text.now) }
+{
+    'characters: for character in text.chars() {
+        push_doubled(out, character)?;
+    }
+    Ok(())
+}
+
+fn push_doubled(out: &mut String, character: char) -> Result<(), NoMemory>
+    ensures { OnOk result ((more : List ℕ)
+        → string_bytes out.old ++ encode_utf8_all (doubled (character ∷ more))
+        ≡ string_bytes out.new ++ encode_utf8_all (doubled more)) }
+{
+    if character == '\'' {
+        out.push(character)?;
+    }
+    out.push(character)?;
+    Ok(())
+}
+
+fn append_instant(alloc: Global, out: &mut String, at: Instant) -> Result<(), NoMemory>
+    ensures { OnOk result (string_bytes out.new ≡ string_bytes out.old ++ instant_text at) }
+{
+    let text = print_instant(alloc, at)?;
+    append(out, text.as_str())?;
+    Ok(())
+}
+
+fn append_number(out: &mut String, number: i64) -> Result<(), NoMemory>
+    ensures { OnOk result (string_bytes out.new ≡ string_bytes out.old ++ signed_decimal number) }
+{
+    write!(out, "{number}")?;
+    Ok(())
+}
+
+fn append_literal(alloc: Global, out: &mut String, literal: &Literal) -> Result<(), NoMemory>
+    ensures { OnOk result (string_bytes out.new
+        ≡ string_bytes out.old ++ spec.literal_text literal.now) }
+{
+    match literal {
+        Literal::Number(number) => append_number(out, *number),
+        Literal::Text(text) => append_text(out, text),
+        Literal::Date(at) => append_instant(alloc, out, *at),
+        Literal::Truth(truth) => append_truth(out, *truth),
+    }
+}
+
+fn append_truth(out: &mut String, truth: bool) -> Result<(), NoMemory>
+    ensures { OnOk result (string_bytes out.new ≡ string_bytes out.old ++ spec.truth_text truth) }
+{
+    if truth {
+        append(out, "TRUE")?;
+        return Ok(());
+    }
+    append(out, "FALSE")?;
+    Ok(())
+}
+
+fn append_literals(alloc: Global, out: &mut String, literals: &[Literal]) -> Result<(), NoMemory>
+    ensures { OnOk result (string_bytes out.new
+        ≡ string_bytes out.old ++ spec.commas spec.literal_text true literals.now) }
+{
+    let mut first = true;
+    'literals: for literal in literals {
+        append_comma(out, first)?;
+        first = false;
+        append_literal(alloc, out, literal)?;
+    }
+    Ok(())
+}
+
+fn append_comma(out: &mut String, first: bool) -> Result<(), NoMemory>
+    ensures { OnOk result (string_bytes out.new ≡ string_bytes out.old ++ spec.comma_text first) }
+{
+    if !first {
+        append(out, ", ")?;
+    }
+    Ok(())
+}
+
+fn append_ids(out: &mut String, texts: &[Text]) -> Result<(), NoMemory>
+    ensures { OnOk result (string_bytes out.new ≡ string_bytes out.old ++ spec.ids_text texts.now) }
+{
+    append(out, "IN (")?;
+    let mut first = true;
+    'texts: for text in texts {
+        append_comma(out, first)?;
+        first = false;
+        append_text(out, text)?;
+    }
+    append(out, ")")?;
+    Ok(())
+}
+
+fn append_box(out: &mut String, of: &FeatureType, at: u16, area: &Box2) -> Result<(), NoMemory>
+    ensures { OnOk result (string_bytes out.new ≡ string_bytes out.old
+        ++ spec.box_text (spec.name_at of.now at) area.now) }
+{
+    append(out, "BBOX(")?;
+    append_name(out, of, at)?;
+    append(out, ", ")?;
+    append_fixed(out, area.low.x)?;
+    append(out, ", ")?;
+    append_fixed(out, area.low.y)?;
+    append(out, ", ")?;
+    append_fixed(out, area.high.x)?;
+    append(out, ", ")?;
+    append_fixed(out, area.high.y)?;
+    append(out, ")")?;
+    Ok(())
+}
+
+fn append_related(
+    alloc: Global,
+    out: &mut String,
+    of: &FeatureType,
+    word: &str,
+    at: u16,
+    geometry: &Geometry,
+) -> Result<(), NoMemory>
+    ensures { OnOk result (string_bytes out.new ≡ string_bytes out.old
+        ++ spec.related_text word.now (spec.name_at of.now at) geometry.now) }
+{
+    append(out, word)?;
+    append_name(out, of, at)?;
+    append(out, ", ")?;
+    let text = gm_wkt::print(alloc, geometry)?;
+    append(out, text.as_str())?;
+    append(out, ")")?;
+    Ok(())
+}
+
+fn append_timed(
+    alloc: Global,
+    out: &mut String,
+    of: &FeatureType,
+    at: u16,
+    word: &str,
+    instant: Instant,
+) -> Result<(), NoMemory>
+    ensures { OnOk result (string_bytes out.new ≡ string_bytes out.old
+        ++ spec.timed_text (spec.name_at of.now at) word.now instant) }
+{
+    append_name(out, of, at)?;
+    append(out, word)?;
+    append_instant(alloc, out, instant)
+}
