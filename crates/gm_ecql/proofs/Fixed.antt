@@ -19,13 +19,7 @@ use Rattle.gm_ecql.specs.Tokens.{a_number, is_number_start}
 use Rattle.gm_ecql.proofs.PrintedNumbers.{IsSigned, is_no_dash, number_piece}
 use Rattle.gm_ecql.proofs.Scans.{both, take_run, drop_run}
 use Rattle.gm_ecql.proofs.Sequences.{Printed}
-
-own : IsNumeralModel (λ ds. all_ascii_digits ds ≡ true) (digits_value 10)
-own = numerals_by_value _ tells_all_ascii_digits
-
-same_digits : (ds : List ℕ) → all_ascii_digits ds ≡ list_all is_ascii_digit ds
-same_digits [] = refl
-same_digits (d ∷ ds) = ap (λ x. is_ascii_digit d && x) (same_digits ds)
+use Rattle.gm_ecql.proofs.Wholes.{own, same_digits}
 
 decimal_digits : (n : ℕ) → n < 2 ^ 64 → list_all is_ascii_digit (decimal n) ≡ true
 decimal_digits n h = sym (same_digits (decimal n)) ∙ digits_decimal own n h

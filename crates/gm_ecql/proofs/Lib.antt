@@ -27,6 +27,8 @@ pub mod PrintedGeometries
 pub mod PrintedLiterals
 pub mod PrintedNames
 pub mod PrintedNumbers
+pub mod PrintedTests
+pub mod PrintedTrees
 pub mod PrintedWords
 pub mod Readers
 pub mod Scanned

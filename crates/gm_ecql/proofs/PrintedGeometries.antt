@@ -305,7 +305,7 @@ module _ (numbers : (z : ℤ) → SFits w32 z → Printed (fixed_text z) (a_numb
   within_fits n (pos m) small e = record { sfits = omega (arith, leb-true m n e) }
   within_fits n (negsuc m) small e = record { sfits = omega (arith, ltb-true m n e) }
 
-  point_fits : (p : Point) → is_in_world p ≡ true → FitsPoint p
+  pub point_fits : (p : Point) → is_in_world p ≡ true → FitsPoint p
   point_fits p e =
       let each = both (is_within 1800000000 p.x) (is_within 900000000 p.y) e in
       record { x = within_fits 1800000000 p.x (lit< tt) each.0; y = within_fits 900000000 p.y (lit< tt) each.1 }

@@ -72,3 +72,13 @@ pub fn printed_filters_are_spelled()
     instants_are_tested();
     printed_is_spelled();
 }
+
+/// The printed text of a filter that suits a type is read as the filter again, if the text keeps
+/// the limits.
+pub fn printed_filters_are_read()
+    ensures { (s : Specification) (t : Tree) → IsType s → Suits s t
+        → KeepsLimits (printed s t) → filter_outcome s (printed s t) ≡ Ok t }
+{
+    outcomes_are_answers();
+    printed_filters_are_spelled();
+}

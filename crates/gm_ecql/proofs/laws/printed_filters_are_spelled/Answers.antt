@@ -1,10 +1,15 @@
-use Rattle.gm_ecql.proofs.PrintedNames.{named}
-use Rattle.gm_ecql.proofs.PrintedLiterals.{literal_means}
-use Rattle.gm_ecql.proofs.Sequences.{list_opened}
-use Rattle.gm_ecql.proofs.PrintedWords.{name_piece}
-use Rattle.gm_ecql.proofs.PrintedGeometries.{geometry_tokens}
-use Rattle.gm_ecql.proofs.Fixed.{fixed_printed, whole_printed}
+use Rattle.gm_ecql.proofs.PrintedLiterals.{PrintsInstants}
+use Rattle.gm_ecql.proofs.PrintedTests.{Below}
+use Rattle.gm_ecql.proofs.PrintedTrees.{spells}
 use Rattle.gm_ecql.proofs.laws.printed_filters_are_spelled.Goals as goal
 
 pub returns : goal.returns
-returns c = ?
+returns c = λ s t typed suited.
+    let instants : PrintsInstants = record {
+      tested = λ at is. (c.instants_are_tested.ensures at).1 is;
+      reads = c.printed_instants_are_read.ensures.reads_back;
+      date = c.printed_instants_are_read.ensures.date;
+      bytes = c.printed_instants_are_read.ensures.bytes;
+    } in
+    let below : Below = record { instants = instants; fixed = c.reads_back.ensures; kept = c.printed_is_spelled.ensures.reads_back } in
+    spells s below typed t suited
