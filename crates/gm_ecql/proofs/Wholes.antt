@@ -18,10 +18,10 @@ use Rattle.std.proofs.lemmas.Int.{to_z-of_z}
 use Rattle.gm_feature.specs.Value.{is_below}
 use Rattle.gm_ecql.specs.Judging.{is_whole, whole_of}
 
-own : IsNumeralModel (λ ds. all_ascii_digits ds ≡ true) (digits_value 10)
+pub own : IsNumeralModel (λ ds. all_ascii_digits ds ≡ true) (digits_value 10)
 own = numerals_by_value _ tells_all_ascii_digits
 
-same_digits : (ds : List ℕ) → all_ascii_digits ds ≡ list_all is_ascii_digit ds
+pub same_digits : (ds : List ℕ) → all_ascii_digits ds ≡ list_all is_ascii_digit ds
 same_digits [] = refl
 same_digits (d ∷ ds) = ap (λ x. is_ascii_digit d && x) (same_digits ds)
 

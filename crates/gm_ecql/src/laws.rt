@@ -1,6 +1,7 @@
 // Laws of the definitions, for the crates above. Each is the contract of a function that does
 // nothing.
 ghost use Rattle.std.specs.Prelude.{◌≡◌, ℕ, List, Bool, Ok, Err, IsUtf8};
+ghost use Rattle.gm_types.specs.FeatureType.{IsType};
 ghost use Rattle.gm_types.specs.Specification.{Specification};
 ghost use Rattle.gm_feature.specs.declared.value.Value.{Value};
 ghost use Rattle.gm_filter.specs.Suits.{Suits};
@@ -8,7 +9,12 @@ ghost use Rattle.gm_filter.specs.Tree.{Tree};
 ghost use Rattle.gm_ecql.specs.declared.fault.FilterFault.{FilterFault};
 ghost use Rattle.gm_ecql.specs.Faults.{IsFault, IsFilterOf, IsChangeOf, SpellsFilter, SpellsChange};
 ghost use Rattle.gm_ecql.specs.Outcome.{KeepsLimits, Meant, filter_outcome, change_outcome};
+ghost use Rattle.gm_ecql.specs.Printing.{printed};
 ghost use Rattle.gm_ecql.specs.Tokens.{Seen, SpellsTokens};
+
+use gm_calendar::{instants_are_tested, printed_instants_are_read};
+use gm_geom::reads_back;
+use gm_wkt::printed_is_spelled;
 
 /// A text spells at most one list of tokens, and only UTF-8 spells one.
 pub fn one_list()
@@ -55,3 +61,24 @@ pub fn change_outcomes_are_answers()
     ensures faults { (s : Specification) (text : List ℕ) (e : FilterFault)
         → change_outcome s text ≡ Err e → IsFault (IsChangeOf s) (λ c. c.faults) text e }
 {}
+
+/// The printed text of a filter that suits a type spells the filter.
+pub fn printed_filters_are_spelled()
+    ensures { (s : Specification) (t : Tree)
+        → IsType s → Suits s t → SpellsFilter s (printed s t) t }
+{
+    reads_back();
+    printed_instants_are_read();
+    instants_are_tested();
+    printed_is_spelled();
+}
+
+/// The printed text of a filter that suits a type is read as the filter again, if the text keeps
+/// the limits.
+pub fn printed_filters_are_read()
+    ensures { (s : Specification) (t : Tree) → IsType s → Suits s t
+        → KeepsLimits (printed s t) → filter_outcome s (printed s t) ≡ Ok t }
+{
+    outcomes_are_answers();
+    printed_filters_are_spelled();
+}

@@ -28,6 +28,7 @@ pub use change::Change;
 pub use fault::FilterFault;
 pub use laws::{
     change_outcomes_are_answers, one_change, one_filter, one_list, outcomes_are_answers,
+    printed_filters_are_read, printed_filters_are_spelled,
 };
 pub use limits::{DEPTH_LIMIT, JOIN_LIMIT, TOKEN_LIMIT};
 pub use printer::print;

@@ -4,6 +4,7 @@ ghost use Rattle.std.specs.String.{string_bytes};
 ghost use Rattle.std.specs.Fmt.{signed_decimal};
 ghost use Rattle.gm_calendar.specs.Spelling.{instant_text};
 ghost use Rattle.gm_filter.specs.Tree.{tree, trees_of};
+ghost use Rattle.gm_filter.specs.Tree.{compare, between, like, one_of, is_null};
 ghost use Rattle.gm_types.specs.Specification.{names_of};
 ghost use Rattle.gm_ecql.specs.Printing as spec;
 ghost use Rattle.gm_ecql.specs.Tokens.{doubled};
@@ -98,33 +99,11 @@ fn append_test(
         Filter::Include => out.push_str("INCLUDE")?,
         Filter::Exclude => out.push_str("EXCLUDE")?,
         Filter::Ids(texts) => append_ids(out, texts.as_slice())?,
-        Filter::Compare(at, op, literal) => {
-            append_name(out, of, *at)?;
-            out.push_str(op_text(*op))?;
-            append_literal(alloc, out, literal)?;
-        }
-        Filter::Between(at, low, high) => {
-            append_name(out, of, *at)?;
-            out.push_str(" BETWEEN ")?;
-            append_literal(alloc, out, low)?;
-            out.push_str(" AND ")?;
-            append_literal(alloc, out, high)?;
-        }
-        Filter::Like(at, pattern) => {
-            append_name(out, of, *at)?;
-            out.push_str(" LIKE ")?;
-            append_text(out, pattern)?;
-        }
-        Filter::OneOf(at, literals) => {
-            append_name(out, of, *at)?;
-            out.push_str(" IN (")?;
-            append_literals(alloc, out, literals.as_slice())?;
-            out.push_str(")")?;
-        }
-        Filter::IsNull(at) => {
-            append_name(out, of, *at)?;
-            out.push_str(" IS NULL")?;
-        }
+        Filter::Compare(at, op, literal) => append_compared(alloc, out, of, *at, *op, literal)?,
+        Filter::Between(at, low, high) => append_between(alloc, out, of, *at, low, high)?,
+        Filter::Like(at, pattern) => append_like(out, of, *at, pattern)?,
+        Filter::OneOf(at, literals) => append_one_of(alloc, out, of, *at, literals.as_slice())?,
+        Filter::IsNull(at) => append_null(out, of, *at)?,
         Filter::Bbox(at, area) => append_box(out, of, *at, area)?,
         Filter::Intersects(at, geometry) => {
             append_related(alloc, out, of, "INTERSECTS(", *at, geometry)?;
@@ -141,6 +120,75 @@ fn append_test(
         Filter::Tequals(at, instant) => append_timed(alloc, out, of, *at, " TEQUALS ", *instant)?,
         Filter::Not(_) | Filter::And(_) | Filter::Or(_) => {}
     }
+    Ok(())
+}
+
+fn append_compared(
+    alloc: Global,
+    out: &mut String,
+    of: &FeatureType,
+    at: u16,
+    op: Op,
+    literal: &Literal,
+) -> Result<(), NoMemory>
+    ensures { OnOk result (string_bytes out.new
+        ≡ string_bytes out.old ++ spec.test_text of.now (compare at op literal.now)) }
+{
+    append_name(out, of, at)?;
+    out.push_str(op_text(op))?;
+    append_literal(alloc, out, literal)
+}
+
+fn append_between(
+    alloc: Global,
+    out: &mut String,
+    of: &FeatureType,
+    at: u16,
+    low: &Literal,
+    high: &Literal,
+) -> Result<(), NoMemory>
+    ensures { OnOk result (string_bytes out.new
+        ≡ string_bytes out.old ++ spec.test_text of.now (between at low.now high.now)) }
+{
+    append_name(out, of, at)?;
+    out.push_str(" BETWEEN ")?;
+    append_literal(alloc, out, low)?;
+    out.push_str(" AND ")?;
+    append_literal(alloc, out, high)
+}
+
+fn append_like(out: &mut String, of: &FeatureType, at: u16, pattern: &Text) -> Result<(), NoMemory>
+    ensures { OnOk result (string_bytes out.new
+        ≡ string_bytes out.old ++ spec.test_text of.now (like at pattern.now)) }
+{
+    append_name(out, of, at)?;
+    out.push_str(" LIKE ")?;
+    append_text(out, pattern)
+}
+
+fn append_one_of(
+    alloc: Global,
+    out: &mut String,
+    of: &FeatureType,
+    at: u16,
+    literals: &[Literal],
+) -> Result<(), NoMemory>
+    ensures { OnOk result (string_bytes out.new
+        ≡ string_bytes out.old ++ spec.test_text of.now (one_of at literals.now)) }
+{
+    append_name(out, of, at)?;
+    out.push_str(" IN (")?;
+    append_literals(alloc, out, literals)?;
+    out.push_str(")")?;
+    Ok(())
+}
+
+fn append_null(out: &mut String, of: &FeatureType, at: u16) -> Result<(), NoMemory>
+    ensures { OnOk result (string_bytes out.new
+        ≡ string_bytes out.old ++ spec.test_text of.now (is_null at)) }
+{
+    append_name(out, of, at)?;
+    out.push_str(" IS NULL")?;
     Ok(())
 }
 
