@@ -1,5 +1,8 @@
 pub mod Batches
 pub mod Between
+pub mod BlockLookups
+pub mod BlockPlaces
+pub mod BlockWalks
 pub mod Handing
 pub mod Keys
 pub mod Places

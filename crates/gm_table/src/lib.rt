@@ -3,6 +3,7 @@
 #![tactic(auto)]
 
 mod batch;
+mod blocks;
 mod changes;
 mod cursor;
 mod end;
