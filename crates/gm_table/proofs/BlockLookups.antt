@@ -19,7 +19,7 @@ first_at key [] = None
 first_at key (row ∷ rows) = cond (is_at (slice_cmp nat_cmp key) row.0) (Some row.1) None
 
 -- no key after the given one is it
-none_later : (key : List ℕ) (rows : Rows) → AllByRecursion (λ k. slice_cmp nat_cmp key k ≡ Less) (keys_of rows) → at_key key rows ≡ None
+pub none_later : (key : List ℕ) (rows : Rows) → AllByRecursion (λ k. slice_cmp nat_cmp key k ≡ Less) (keys_of rows) → at_key key rows ≡ None
 none_later key [] later = refl
 none_later key (row ∷ rows) later = ap (λ r. cond (is_eq r) (Some row.1) (at_key key rows)) later.0 ∙ none_later key rows later.1
 

@@ -20,7 +20,7 @@ use Rattle.gm_table.proofs.Places.{le_trans, not_reached}
 pub not_le_after : (a b : List ℕ) → slice_cmp nat_cmp a b ≡ Less → is_le (slice_cmp nat_cmp b a) ≡ false
 not_le_after a b less = ap is_le (nat_list_cmp_total.antisymm b a ∙ ap ordering_reverse less)
 
-less_of : (a b : List ℕ) (r : Ordering) → slice_cmp nat_cmp a b ≡ r → is_le r ≡ false → slice_cmp nat_cmp b a ≡ Less
+pub less_of : (a b : List ℕ) (r : Ordering) → slice_cmp nat_cmp a b ≡ r → is_le r ≡ false → slice_cmp nat_cmp b a ≡ Less
 less_of a b Less is away = absurd (true≢false away)
 less_of a b Equal is away = absurd (true≢false away)
 less_of a b Greater is away = nat_list_cmp_total.antisymm b a ∙ ap ordering_reverse is

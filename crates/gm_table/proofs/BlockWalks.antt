@@ -99,7 +99,7 @@ below_more key (x ∷ xs) ys =
       | false ↦ (rest.0, ap (λ later. x ∷ later) rest.1)
     ]
 
-below_away : (key : List ℕ) (xs : Rows) → AllByRecursion (λ k. is_le (slice_cmp nat_cmp key k) ≡ false) (keys_of (rows_below key xs))
+pub below_away : (key : List ℕ) (xs : Rows) → AllByRecursion (λ k. is_le (slice_cmp nat_cmp key k) ≡ false) (keys_of (rows_below key xs))
 below_away key [] = tt
 below_away key (x ∷ xs) =
     elim (is_le (slice_cmp nat_cmp key x.0)) as (λ b. is_le (slice_cmp nat_cmp key x.0) ≡ b → AllByRecursion (λ k. is_le (slice_cmp nat_cmp key k) ≡ false) (keys_of (cond b [] (x ∷ rows_below key xs)))) [

@@ -1,5 +1,7 @@
 pub mod Batches
 pub mod Between
+pub mod BlockChanges
+pub mod BlockKeys
 pub mod BlockLookups
 pub mod BlockPlaces
 pub mod BlockWalks

@@ -1,6 +1,12 @@
 -- Rows in blocks.
-use Rattle.std.specs.Prelude.{◌≡◌, ℕ, ◌<◌, ◌≤◌, zero, suc, List, [], ◌∷◌, ◌++◌, length, take, drop, map}
-use Rattle.gm_base.specs.Front.{IsFront}
+use Rattle.std.specs.Prelude.{◌≡◌, ℕ, ◌<◌, ◌≤◌, zero, suc, List, [], ◌∷◌, ◌++◌, length, take, drop, map, slice_index_or}
+use Rattle.std.specs.declared.cmp.Ordering.TheVariants.{Less}
+use Rattle.std.specs.Cmp.Lexicographic.{slice_cmp}
+use Rattle.std.specs.List.{AllByRecursion}
+use Rattle.std.specs.Map.{keys_of}
+use Rattle.std.specs.Ordering.{nat_cmp}
+use Rattle.std.specs.Coded.{×_prop, Unit-prop, le_prop, Coded-set, coded_ℕ}
+use Rattle.gm_base.specs.Front.{AreBytes, IsFront, rest_of}
 use Rattle.gm_table.specs.declared.row.Row.{Row}
 use Rattle.gm_table.specs.declared.blocks.block.Block.{Block}
 use Rattle.gm_table.specs.Cursor.{rows_from}
@@ -33,6 +39,19 @@ pub record IsBlock (block : Block) : Type 0 where
   pub sized : IsSized block.rows
   pub front : IsFront block.front (first_key block.rows)
 
+AreBytes-prop : (n : ℕ) (bytes : List ℕ) → IsProp (AreBytes n bytes)
+AreBytes-prop zero bytes = Unit-prop
+AreBytes-prop (suc n) bytes = ×_prop le_prop (AreBytes-prop n (rest_of bytes))
+
+pub IsBlock-prop : (block : Block) → IsProp (IsBlock block)
+IsBlock-prop block p q = λ i. record {
+  sized = record { some = le_prop p.sized.some q.sized.some i; few = le_prop p.sized.few q.sized.few i };
+  front = record {
+    front = Coded-set coded_ℕ _ _ p.front.front q.front.front i;
+    are_bytes = AreBytes-prop 16 (first_key block.rows) p.front.are_bytes q.front.are_bytes i;
+  };
+}
+
 abbrev pub lists_of : List Block → List (List Row)
 lists_of blocks = map (λ block. block.rows) blocks
 
@@ -59,3 +78,28 @@ IsPlace (suc n) row (block ∷ other ∷ blocks) = IsPlace n row (other ∷ bloc
 pub record IsAtKey (blocks : List Block) (key : List ℕ) (n row : ℕ) : Type 0 where
   pub place : IsPlace n row blocks
   pub rows : rows_at n row blocks ≡ rows_from key (rows_of (lists_of blocks))
+
+-- a row of this key stands at the place
+pub record IsRowAt (key : List ℕ) (n row : ℕ) (blocks : List Block) : Type 0 where
+  pub within : n < length blocks
+  pub inside : (d : Block) → row < length (slice_index_or blocks n d).rows
+  pub has : (d : Block) (e : Row) → key ≡ (slice_index_or (slice_index_or blocks n d).rows row e).key
+
+-- all keys of the first rows are below the key, and all of the others above it
+pub record IsGap (key : List ℕ) (before after : Rows) : Type 0 where
+  pub below : AllByRecursion (λ other. slice_cmp nat_cmp other key ≡ Less) (keys_of before)
+  pub above : AllByRecursion (λ other. slice_cmp nat_cmp key other ≡ Less) (keys_of after)
+
+-- the place is in a block that may have one row more
+pub record HasRoom (n row : ℕ) (blocks : List Block) : Type 0 where
+  pub within : n < length blocks
+  pub inside : (d : Block) → row ≤ length (slice_index_or blocks n d).rows
+  pub room : (d : Block) → length (slice_index_or blocks n d).rows < 4096
+
+-- two blocks in place of one, of which the first has so many of its rows
+pub record IsCut (n count : ℕ) (before after : List Block) : Type 0 where
+  pub first : Block
+  pub second : Block
+  pub parts : after ≡ take n before ++ first ∷ second ∷ drop (suc n) before
+  pub first_rows : (d : Block) → first.rows ≡ take count (slice_index_or before n d).rows
+  pub second_rows : (d : Block) → second.rows ≡ drop count (slice_index_or before n d).rows

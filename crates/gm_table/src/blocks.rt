@@ -1,6 +1,12 @@
 //! Tables whose rows stand in blocks.
-mod block;
+pub(crate) mod block;
+mod batches;
+mod change;
 mod cursor;
+mod find;
 mod lookup;
 mod search;
+mod table;
 mod walk;
+
+pub use table::BlockTable;

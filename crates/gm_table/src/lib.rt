@@ -15,6 +15,7 @@ mod sorted;
 mod visit;
 
 pub use batch::Batch;
+pub use blocks::BlockTable;
 pub use laws::{applied_as_told, rows_of_a_map, rows_of_a_range, same_at_each_key};
 pub use map_table::MapTable;
 pub use replaying::{BatchList, replay};
