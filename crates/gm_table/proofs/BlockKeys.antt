@@ -130,6 +130,13 @@ restored_gap other key old xs ys gap =
       | false ↦ λ _. refl
     ] refl
 
+pub removed_gap : (other key : List ℕ) (xs ys : Rows) → IsGap key xs ys → at_key other (xs ++ ys) ≡ (if is_at (slice_cmp nat_cmp other) key then None else at_key other (xs ++ ys))
+removed_gap other key xs ys gap =
+    elim (is_at (slice_cmp nat_cmp other) key) as (λ b. is_at (slice_cmp nat_cmp other) key ≡ b → at_key other (xs ++ ys) ≡ cond b None (at_key other (xs ++ ys))) [
+      | true ↦ λ same. ap (λ k. at_key k (xs ++ ys)) (same_key other key same) ∙ at_gap key xs ys gap
+      | false ↦ λ _. refl
+    ] refl
+
 pub restored_none : (other key bytes : List ℕ) (xs ys : Rows) → IsGap key xs ys → at_key other (xs ++ ys) ≡ restored_at other key None (at_key other (xs ++ (key, bytes) ∷ ys))
 restored_none other key bytes xs ys gap = at_fewer other key bytes xs ys gap
 
@@ -185,3 +192,63 @@ gap_some key rows before from row later rising below after first apart = record 
   below = subst (λ xs. AllByRecursion (λ other. slice_cmp nat_cmp other key ≡ Less) (keys_of xs)) (sym below) (each_less key (rows_below key rows) (below_away key rows));
   above = subst (λ xs. AllByRecursion (λ other. slice_cmp nat_cmp key other ≡ Less) (keys_of xs)) (sym after) (after_above key rows row later rising (sym after ∙ first) apart);
 }
+
+-- ---- all rows, where one is changed, is new or is gone
+pub record Changed (key others : List ℕ) (before after : Rows) : Type 0 where
+  pub rising : IsRising after
+  pub size : length after ≡ length before
+  pub at : (other : List ℕ) → at_key other after ≡ (if is_at (slice_cmp nat_cmp other) key then Some others else at_key other before)
+  pub restored : (other : List ℕ) → at_key other after ≡ restored_at other key (Some others) (at_key other before)
+
+pub record Added (key bytes : List ℕ) (before after : Rows) : Type 0 where
+  pub rising : IsRising after
+  pub size : length after ≡ length before + 1
+  pub at : (other : List ℕ) → at_key other after ≡ (if is_at (slice_cmp nat_cmp other) key then Some bytes else at_key other before)
+  pub had : at_key key before ≡ None
+
+pub record Taken (key : List ℕ) (before after : Rows) : Type 0 where
+  pub rising : IsRising after
+  pub size : length before ≡ length after + 1
+  pub at : (other : List ℕ) → at_key other after ≡ (if is_at (slice_cmp nat_cmp other) key then None else at_key other before)
+  pub restored : (other : List ℕ) → at_key other after ≡ restored_at other key None (at_key other before)
+
+one_more_row : (row : List ℕ × List ℕ) (xs ys : Rows) → length (xs ++ row ∷ ys) ≡ length (xs ++ ys) + 1
+one_more_row row [] ys = omega arith
+one_more_row row (x ∷ xs) ys = let inner = one_more_row row xs ys in omega arith
+
+pub had_there : (key bytes : List ℕ) (before xs ys from : Rows) → before ≡ xs ++ from → from ≡ (key, bytes) ∷ ys → IsRising before → at_key key before ≡ Some bytes
+had_there key bytes before xs ys from parts first rising =
+    let whole : before ≡ xs ++ (key, bytes) ∷ ys = parts ∙ ap (λ some. xs ++ some) first in
+    ap (at_key key) whole ∙ at_there key bytes xs ys (gap_round key bytes xs ys (subst IsRising whole rising))
+
+pub is_changed : (key bytes others : List ℕ) (before after xs ys from : Rows) → before ≡ xs ++ from → from ≡ (key, bytes) ∷ ys → after ≡ xs ++ (key, others) ∷ ys → IsRising before → Changed key others before after
+is_changed key bytes others before after xs ys from parts first now rising =
+    let whole : before ≡ xs ++ (key, bytes) ∷ ys = parts ∙ ap (λ some. xs ++ some) first in
+    let rises = subst IsRising whole rising in
+    let gap = gap_round key bytes xs ys rises in
+    record {
+      rising = subst IsRising (sym now) (rising_changed key bytes others xs ys rises);
+      size = ap length now ∙ one_more_row (key, others) xs ys ∙ sym (one_more_row (key, bytes) xs ys) ∙ ap length (sym whole);
+      at = λ other. ap (at_key other) now ∙ at_changed other key bytes others xs ys gap ∙ ap (λ some. cond (is_at (slice_cmp nat_cmp other) key) (Some others) (at_key other some)) (sym whole);
+      restored = λ other. ap (at_key other) now ∙ restored_some other key bytes others xs ys gap ∙ ap (λ some. restored_at other key (Some others) (at_key other some)) (sym whole);
+    }
+
+pub is_added : (key bytes : List ℕ) (before after xs ys : Rows) → before ≡ xs ++ ys → after ≡ xs ++ (key, bytes) ∷ ys → IsGap key xs ys → IsRising before → Added key bytes before after
+is_added key bytes before after xs ys parts now gap rising = record {
+  rising = subst IsRising (sym now) (rising_gap key bytes xs ys (subst IsRising parts rising) gap);
+  size = ap length now ∙ one_more_row (key, bytes) xs ys ∙ ap (λ some. length some + 1) (sym parts);
+  at = λ other. ap (at_key other) now ∙ at_more other key bytes xs ys gap ∙ ap (λ some. cond (is_at (slice_cmp nat_cmp other) key) (Some bytes) (at_key other some)) (sym parts);
+  had = ap (at_key key) parts ∙ at_gap key xs ys gap;
+}
+
+pub is_taken : (key bytes : List ℕ) (before after xs ys from : Rows) → before ≡ xs ++ from → from ≡ (key, bytes) ∷ ys → after ≡ xs ++ ys → IsRising before → Taken key before after
+is_taken key bytes before after xs ys from parts first now rising =
+    let whole : before ≡ xs ++ (key, bytes) ∷ ys = parts ∙ ap (λ some. xs ++ some) first in
+    let rises = subst IsRising whole rising in
+    let gap = gap_round key bytes xs ys rises in
+    record {
+      rising = subst IsRising (sym now) (rising_fewer key bytes xs ys rises);
+      size = ap length whole ∙ one_more_row (key, bytes) xs ys ∙ ap (λ some. length some + 1) (sym now);
+      at = λ other. ap (at_key other) now ∙ at_fewer other key bytes xs ys gap ∙ ap (λ some. cond (is_at (slice_cmp nat_cmp other) key) None (at_key other some)) (sym whole);
+      restored = λ other. ap (at_key other) now ∙ restored_none other key bytes xs ys gap ∙ ap (λ some. restored_at other key None (at_key other some)) (sym whole);
+    }

@@ -4,6 +4,7 @@ pub mod BlockChanges
 pub mod BlockKeys
 pub mod BlockLookups
 pub mod BlockPlaces
+pub mod BlockTables
 pub mod BlockWalks
 pub mod Handing
 pub mod Keys

@@ -1,5 +1,5 @@
 // Spans of keys handed out from blocks, each from where the last one ended.
-ghost use Rattle.std.specs.Prelude.{◌≡◌, [], ◌∷◌, ℕ, All, OnOk, IfOk, IfErr, IfSome, MatchOption, length, true};
+ghost use Rattle.std.specs.Prelude.{◌≡◌, ◌≤◌, [], ◌∷◌, ℕ, All, slice_range, OnOk, IfOk, IfErr, IfSome, MatchOption, length, true};
 ghost use Rattle.std.specs.List.{AllByRecursion};
 ghost use Rattle.std.specs.Ordering.{nat_cmp, is_le};
 ghost use Rattle.std.specs.Cmp.Lexicographic.{slice_cmp};
@@ -8,6 +8,7 @@ ghost use Rattle.gm_base.specs.Tally.{tally_number};
 ghost use Rattle.gm_table.specs.Blocks.{IsAtKey, IsBlock, IsPlace, lists_of, pair_of, rows_of, rows_at};
 ghost use Rattle.gm_table.specs.Cursor.{rows_below, rows_after};
 ghost use Rattle.gm_table.specs.Sorted.{IsRising, Rows, between};
+ghost use Rattle.gm_table.specs.Spans.{rows_in};
 ghost use Rattle.gm_table.specs.Visit.{Handed, Stops};
 
 use crate::blocks::block::Block;
@@ -15,8 +16,9 @@ use crate::blocks::search::{Place, place_in, place_of};
 use crate::blocks::walk::{hand_out_until, rest_of};
 use crate::end::End;
 use crate::{Row, Visit};
-use gm_base::{NoMemory, Tally};
+use gm_base::{NoMemory, SpanList, Tally};
 use std::alloc::Global;
+use std::ops::Range;
 
 /// The place of a key in some blocks.
 #[derive(Drop)]
@@ -105,6 +107,44 @@ impl<'a> BlockCursor<'a> {
         }
         place_from(blocks, low)
     }
+}
+
+/// Hands out the rows of each span in this part of the list in turn, each from where the last one
+/// ended.
+pub(crate) fn scan_part<V: Visit>(
+    alloc: Global,
+    blocks: &[Block],
+    spans: &SpanList,
+    part: Range<usize>,
+    visit: &mut V,
+    tally: &mut Tally,
+) -> Result<(), NoMemory>
+    requires each { AllByRecursion IsBlock blocks.now }
+    requires rising { IsRising (rows_of (lists_of blocks.now)) }
+    requires part { (part.start ≤ part.end) × (part.end ≤ length spans.now) }
+    requires admits { All (λ row. V.admits visit.old row.0 row.1)
+        (rows_in (slice_range spans.now part.start part.end) (rows_of (lists_of blocks.now))) }
+    ensures handed { OnOk result (Handed V.takes visit.old
+        (rows_in (slice_range spans.now part.start part.end) (rows_of (lists_of blocks.now)))
+        visit.new) }
+    ensures tally { OnOk result (tally_number tally.new ≡ capped_sum (tally_number tally.old)
+        (length (rows_in (slice_range spans.now part.start part.end)
+        (rows_of (lists_of blocks.now))))) }
+    ensures stopped { IfErr result (λ fault. (handed : ℕ)
+        × Stops V.takes visit.old
+        (rows_in (slice_range spans.now part.start part.end) (rows_of (lists_of blocks.now)))
+        fault visit.new handed
+        × (tally_number tally.new ≡ capped_sum (tally_number tally.old) handed)) }
+{
+    if part.start == part.end {
+        return Ok(());
+    }
+    let mut cursor = BlockCursor::at(blocks, spans.get(part.start).0);
+    for i in part.start..part.end {
+        let (low, high) = spans.get(i);
+        cursor.scan(alloc, blocks, low, high, visit, tally)?;
+    }
+    Ok(())
 }
 
 // The place of a key.

@@ -12,7 +12,7 @@ ghost use Rattle.gm_table.specs.Sorted.{IsRising, IsRising-prop, at_key};
 use crate::blocks::batches::{put_rows, remove_keys};
 use crate::blocks::block::Block;
 use crate::blocks::change::{insert_row, remove_row, replace_row};
-use crate::blocks::cursor::BlockCursor;
+use crate::blocks::cursor::{BlockCursor, scan_part};
 use crate::blocks::find::find_row;
 use crate::blocks::lookup::bytes_at;
 use crate::{Batch, Row, RowList, Sorted, Visit};
@@ -157,15 +157,7 @@ impl Sorted for BlockTable {
         visit: &mut V,
         tally: &mut Tally,
     ) -> Result<(), NoMemory> {
-        if part.start == part.end {
-            return Ok(());
-        }
-        let mut cursor = BlockCursor::at(&self.list, spans.get(part.start).0);
-        for i in part.start..part.end {
-            let (low, high) = spans.get(i);
-            cursor.scan(alloc, &self.list, low, high, visit, tally)?;
-        }
-        Ok(())
+        scan_part(alloc, &self.list, spans, part, visit, tally)
     }
 
     fn apply(&mut self, alloc: Global, batch: &Batch) -> Result<(), NoMemory> {
