@@ -18,7 +18,7 @@ loop-old-preserved c =
           ∙ ap (λ olds. undone_at key c.args.puts.now olds (at_key key (rows_of (lists_of c.loop-old.table.list.items)))) (sym c.in-Some.ensures.items) ∙ c.loop-old.invariant.undone key);
     }
 
-pub returns-clause-undone : goal.returns-clause-undone
-returns-clause-undone c = λ key.
+pub returns : goal.returns
+returns c = λ key.
     let none : c.loop-old.olds.items ≡ [] = no_length _ (grind (arith, common_steps)) in
     sym (ap (λ olds. undone_at key c.args.puts.now olds (at_key key (rows_of (lists_of c.loop-old.table.list.items)))) none) ∙ c.loop-old.invariant.undone key
