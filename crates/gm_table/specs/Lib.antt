@@ -1,4 +1,5 @@
 pub mod Batch
+pub mod BlockTable
 pub mod Blocks
 pub mod Changes
 pub mod Cursor

@@ -1,6 +1,6 @@
 //! Tables whose rows stand in blocks.
-pub(crate) mod block;
 mod batches;
+pub(crate) mod block;
 mod change;
 mod cursor;
 mod find;

@@ -35,6 +35,16 @@ impl<'a> End<'a> {
         }
     }
 
+    /// A key whose number is at hand.
+    pub(crate) fn of_key(key: &'a Bytes) -> End<'a>
+        ensures { result ≡ key.now }
+    {
+        End {
+            front: key.front(),
+            bytes: key.as_slice(),
+        }
+    }
+
     /// The number of its first bytes.
     pub(crate) fn front(&self) -> u128
         ensures { IsFront result self.now }

@@ -1,5 +1,5 @@
-//! A sorted table of byte keys: what it is, whichever way it is kept, changes of it, and one that
-//! is kept in std's ordered map.
+//! A sorted table of byte keys: what it is, whichever way it is kept, changes of it, one that is
+//! kept in std's ordered map, and one that is kept in blocks.
 #![tactic(auto)]
 
 mod batch;

@@ -17,6 +17,9 @@ const MOST: usize = 256;
 // How many rows the first of the two keeps.
 const HALF: usize = 128;
 
+// A block of no more rows is dropped when one of them is taken out.
+const FEWEST: usize = 1;
+
 /// Puts a row in at a place.
 pub(crate) fn insert_row(
     alloc: Global,
@@ -122,10 +125,11 @@ pub(crate) fn remove_row(alloc: Global, list: &mut Vec<Block>, at: Place)
     requires within { at.block < length list.old.items }
     requires there { (d : Block) → at.row < length (slice_index_or list.old.items at.block d).rows }
     ensures rows { rows_of (lists_of list.new.items)
-        ≡ rows_until at.block at.row list.old.items ++ rows_at at.block (suc at.row) list.old.items }
+        ≡ rows_until at.block at.row list.old.items
+        ++ rows_at at.block (suc at.row) list.old.items }
     ensures each { AllByRecursion IsBlock list.new.items }
 {
-    if list[at.block].rows.len() == 1 {
+    if list[at.block].rows.len() <= FEWEST {
         let _emptied = list.remove(at.block);
         return;
     }

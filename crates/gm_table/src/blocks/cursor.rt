@@ -61,7 +61,8 @@ impl<'a> BlockCursor<'a> {
         ensures tally { OnOk result (tally_number tally.new ≡ capped_sum (tally_number tally.old)
             (length (between low.now high.now (rows_of (lists_of blocks.now))))) }
         ensures stopped { IfErr result (λ fault. (handed : ℕ)
-            × Stops V.takes visit.old (between low.now high.now (rows_of (lists_of blocks.now))) fault visit.new handed
+            × Stops V.takes visit.old
+            (between low.now high.now (rows_of (lists_of blocks.now))) fault visit.new handed
             × (tally_number tally.new ≡ capped_sum (tally_number tally.old) handed)) }
     {
         if self.is_clear(blocks, low, high) {

@@ -19,7 +19,7 @@ pub(crate) fn find_row(blocks: &[Block], key: &Bytes) -> Result<Place, Place>
     ensures gap { IfErr result (λ at. IsGap key.now (rows_until at.block at.row blocks.now)
         (rows_at at.block at.row blocks.now)) }
 {
-    let at = ahead(blocks, place_of(blocks, &End::of(key.as_slice())));
+    let at = ahead(blocks, place_of(blocks, &End::of_key(key)));
     if at.block >= blocks.len() {
         return Err(at);
     }

@@ -17,7 +17,7 @@ pub(crate) fn bytes_at<'a>(blocks: &'a [Block], key: &Bytes) -> Option<&'a [u8]>
     requires rising { IsRising (rows_of (lists_of blocks.now)) }
     ensures { option_copied result ≡ at_key key.now (rows_of (lists_of blocks.now)) }
 {
-    let place = place_of(blocks, &End::of(key.as_slice()));
+    let place = place_of(blocks, &End::of_key(key));
     match row_at(blocks, place) {
         None => None,
         Some(row) => {

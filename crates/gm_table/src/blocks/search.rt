@@ -23,8 +23,10 @@ pub(crate) fn place_of(blocks: &[Block], key: &End<'_>) -> Place
     requires each { AllByRecursion IsBlock blocks.now }
     requires rising { IsRising (rows_of (lists_of blocks.now)) }
     ensures place { IsPlace result.block result.row blocks.now }
-    ensures before { rows_until result.block result.row blocks.now ≡ rows_below key.now (rows_of (lists_of blocks.now)) }
-    ensures from { rows_at result.block result.row blocks.now ≡ rows_after key.now (rows_of (lists_of blocks.now)) }
+    ensures before { rows_until result.block result.row blocks.now
+        ≡ rows_below key.now (rows_of (lists_of blocks.now)) }
+    ensures from { rows_at result.block result.row blocks.now
+        ≡ rows_after key.now (rows_of (lists_of blocks.now)) }
 {
     let begun = count_begun(blocks, key);
     if begun == 0 {
@@ -42,8 +44,10 @@ fn count_begun(blocks: &[Block], key: &End<'_>) -> usize
     requires each { AllByRecursion IsBlock blocks.now }
     requires rising { IsRising (rows_of (lists_of blocks.now)) }
     ensures bound { result ≤ length blocks.now }
-    ensures begun { AllWithin (λ block. is_le (slice_cmp nat_cmp (first_key block.rows) key.now) ≡ true) blocks.now 0 result }
-    ensures others { AllWithin (λ block. is_le (slice_cmp nat_cmp (first_key block.rows) key.now) ≡ false) blocks.now result (length blocks.now) }
+    ensures begun { AllWithin (λ block. is_le (slice_cmp nat_cmp (first_key block.rows) key.now)
+        ≡ true) blocks.now 0 result }
+    ensures others { AllWithin (λ block. is_le (slice_cmp nat_cmp (first_key block.rows) key.now)
+        ≡ false) blocks.now result (length blocks.now) }
 {
     let mut low = 0;
     let mut high = blocks.len();

@@ -25,18 +25,18 @@ use std::ops::Range;
 pub struct BlockTable {
     list: Vec<Block>,
     count: u64,
-    ghost each: { AllByRecursion IsBlock list.items }
-        by { AllByRecursion-prop IsBlock IsBlock-prop list.items },
-    ghost rising: { IsRising (rows_of (lists_of list.items)) }
-        by { IsRising-prop (rows_of (lists_of list.items)) },
+    ghost each: { AllByRecursion IsBlock list.items } by { AllByRecursion-prop IsBlock IsBlock-prop list.items },
+    ghost rising: { IsRising (rows_of (lists_of list.items)) } by { IsRising-prop (rows_of (lists_of list.items)) },
     ghost counted: { count ≡ length (rows_of (lists_of list.items)) },
 }
 
 impl BlockTable {
+    ghost use Rattle.gm_table.specs.BlockTable.{blocks_of};
+
     /// A table with no row. It takes no memory.
     pub fn new(alloc: Global) -> BlockTable
         ensures rows { ⟦<BlockTable as Sorted>⟧.rows result ≡ [] }
-        ensures none { lists_of result.list.items ≡ [] }
+        ensures none { blocks_of result ≡ [] }
     {
         BlockTable {
             list: Vec::new(alloc),
@@ -47,17 +47,16 @@ impl BlockTable {
     /// How many blocks there are. The rows of all of them, one block after the other, are those of
     /// the table. No memory.
     pub fn blocks(&self) -> usize
-        ensures number { result ≡ length (lists_of self.now.list.items) }
-        ensures joined { ⟦<BlockTable as Sorted>⟧.rows self.now
-            ≡ rows_of (lists_of self.now.list.items) }
+        ensures number { result ≡ length (blocks_of self.now) }
+        ensures joined { ⟦<BlockTable as Sorted>⟧.rows self.now ≡ rows_of (blocks_of self.now) }
     {
         self.list.len()
     }
 
     /// The block of that number, from 0 on. No memory.
     pub fn block(&self, i: usize) -> &RowList
-        requires { i < length (lists_of self.now.list.items) }
-        ensures rows { result.now ≡ slice_index_or (lists_of self.now.list.items) i result.now }
+        requires { i < length (blocks_of self.now) }
+        ensures rows { result.now ≡ slice_index_or (blocks_of self.now) i result.now }
         ensures sized { IsSized result.now }
     {
         &self.list[i].rows
@@ -66,12 +65,12 @@ impl BlockTable {
     /// Puts a row in, and answers the bytes that its key had.
     pub(crate) fn put(&mut self, alloc: Global, row: Row) -> Result<Option<Bytes>, NoMemory>
         ensures ok { OnOk result ((key : List ℕ)
-            → at_key key (rows_of (lists_of self.new.list.items))
-            ≡ put_at key (row ∷ []) (at_key key (rows_of (lists_of self.old.list.items)))) }
+            → at_key key (rows_of (blocks_of self.new)) ≡ put_at
+            key (row ∷ []) (at_key key (rows_of (blocks_of self.old)))) }
         ensures had { IfOk result (λ old. old
-            ≡ at_key row.key (rows_of (lists_of self.old.list.items))) }
-        ensures err { OnErr result (rows_of (lists_of self.new.list.items)
-            ≡ rows_of (lists_of self.old.list.items)) }
+            ≡ at_key row.key (rows_of (blocks_of self.old))) }
+        ensures err { OnErr result (rows_of (blocks_of self.new)
+            ≡ rows_of (blocks_of self.old)) }
     {
         match find_row(&self.list, &row.key) {
             Ok(at) => Ok(Some(replace_row(alloc, &mut self.list, at, row.bytes))),
@@ -89,9 +88,9 @@ impl BlockTable {
     /// Gives a key that the table has what it had before a put.
     pub(crate) fn restore(&mut self, alloc: Global, key: &Bytes, old: Option<Bytes>)
         ensures { (other : List ℕ)
-            → at_key other (rows_of (lists_of self.new.list.items))
+            → at_key other (rows_of (blocks_of self.new))
             ≡ restored_at other key.now old
-            (at_key other (rows_of (lists_of self.old.list.items))) }
+            (at_key other (rows_of (blocks_of self.old))) }
     {
         if let Ok(at) = find_row(&self.list, key) {
             match old {
@@ -109,9 +108,9 @@ impl BlockTable {
     /// Takes the row of a key out, if there is one.
     pub(crate) fn remove(&mut self, alloc: Global, key: &Bytes)
         ensures { (other : List ℕ)
-            → at_key other (rows_of (lists_of self.new.list.items))
+            → at_key other (rows_of (blocks_of self.new))
             ≡ (if is_at (slice_cmp nat_cmp other) key.now then None
-            else at_key other (rows_of (lists_of self.old.list.items))) }
+            else at_key other (rows_of (blocks_of self.old))) }
     {
         if let Ok(at) = find_row(&self.list, key) {
             remove_row(alloc, &mut self.list, at);

@@ -36,7 +36,8 @@ pub(crate) fn hand_out_until<V: Visit>(
     ensures tally { OnOk result (tally_number tally.new ≡ capped_sum (tally_number tally.old)
         (length (rows_below high.now (rows_at from.block from.row blocks.now)))) }
     ensures stopped { IfErr result (λ fault. (handed : ℕ)
-        × Stops V.takes visit.old (rows_below high.now (rows_at from.block from.row blocks.now)) fault visit.new handed
+        × Stops V.takes visit.old
+        (rows_below high.now (rows_at from.block from.row blocks.now)) fault visit.new handed
         × (tally_number tally.new ≡ capped_sum (tally_number tally.old) handed)) }
 {
     let mut at = from;
@@ -78,11 +79,15 @@ fn hand_out_before<V: Visit>(
     tally: &mut Tally,
 ) -> Result<usize, NoMemory>
     requires rising { IsRising (pairs_of rows.now) }
-    requires admits { All (λ row. V.admits visit.old row.0 row.1) (rows_below high.now (pairs_of rows.now)) }
+    requires admits { All (λ row. V.admits visit.old row.0 row.1)
+        (rows_below high.now (pairs_of rows.now)) }
     ensures bound { IfOk result (λ count. count ≤ length rows.now) }
-    ensures before { IfOk result (λ count. pairs_of (take count rows.now) ≡ rows_below high.now (pairs_of rows.now)) }
-    ensures from { IfOk result (λ count. pairs_of (drop count rows.now) ≡ rows_after high.now (pairs_of rows.now)) }
-    ensures handed { OnOk result (Handed V.takes visit.old (rows_below high.now (pairs_of rows.now)) visit.new) }
+    ensures before { IfOk result (λ count. pairs_of (take count rows.now)
+        ≡ rows_below high.now (pairs_of rows.now)) }
+    ensures from { IfOk result (λ count. pairs_of (drop count rows.now)
+        ≡ rows_after high.now (pairs_of rows.now)) }
+    ensures handed { OnOk result
+        (Handed V.takes visit.old (rows_below high.now (pairs_of rows.now)) visit.new) }
     ensures tally { OnOk result (tally_number tally.new ≡ capped_sum (tally_number tally.old)
         (length (rows_below high.now (pairs_of rows.now)))) }
     ensures stopped { IfErr result (λ fault. (handed : ℕ)

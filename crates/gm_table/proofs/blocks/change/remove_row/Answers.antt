@@ -1,16 +1,17 @@
-use Rattle.std.proofs.Common.{◌≡◌, ◌++◌, ◌<◌, suc, length, subst, sym, ap, ◌∙◌, get_or, arith}
+use Rattle.std.proofs.Common.{◌≡◌, ◌++◌, ◌<◌, ◌≤◌, suc, length, subst, sym, ap, ◌∙◌, get_or, arith}
 use Rattle.std.specs.List.{remove}
 use Rattle.gm_table.specs.declared.blocks.block.Block.{Block}
 use Rattle.gm_table.specs.Blocks.{lists_of, rows_of}
 use Rattle.gm_table.proofs.BlockChanges.{gone, set_fewer}
 use Rattle.gm_table.proofs.blocks.change.remove_row.Goals as goal
 
-pub returns-then-len-eq1-clause-rows : goal.returns-then-len-eq1-clause-rows
-returns-then-len-eq1-clause-rows c =
+pub returns-then-len-le-FEWEST-clause-rows : goal.returns-then-len-le-FEWEST-clause-rows
+returns-then-len-le-FEWEST-clause-rows c =
     let blocks = c.args.list.now.items in
     let n = c.args.at.block in
     let d : Block = c.index.result.now in
-    let one : length (get_or blocks n d).rows ≡ 1 = subst (λ (block : Block). length block.rows ≡ 1) c.index.ensures (omega (arith, c.len.ensures, c.if-len-eq1.true)) in
+    let few : length (get_or blocks n d).rows ≤ 1 = subst (λ (block : Block). length block.rows ≤ 1) c.index.ensures (omega (arith, c.len.ensures, c.if-len-le-FEWEST.true)) in
+    let one : length (get_or blocks n d).rows ≡ 1 = omega (arith, c.requires.there d) in
     ap (λ xs. rows_of (lists_of xs)) c.remove-emptied.ensures.items ∙ gone blocks n c.args.at.row d c.requires.within one (c.requires.there d)
 
 pub returns-clause-rows : goal.returns-clause-rows

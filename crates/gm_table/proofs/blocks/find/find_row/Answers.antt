@@ -21,7 +21,7 @@ returns-then-at-blocks-clause-gap c =
     let row = c.ahead-at.result.row in
     let until = rows_until n row c.args.blocks.now in
     let from = rows_at n row c.args.blocks.now in
-    let asked = c.of.ensures ∙ c.as_slice.ensures in
+    let asked = c.of_key.ensures in
     let below : until ≡ rows_below key all = c.ahead-at.ensures.until ∙ c.place_of.ensures.before ∙ ap (λ k. rows_below k all) asked in
     let after : from ≡ rows_after key all = c.ahead-at.ensures.from ∙ c.place_of.ensures.from ∙ ap (λ k. rows_after k all) asked in
     gap_none key all until from below after (at_none c.args.blocks.now n row (omega (arith, c.if-at-blocks.true)))
@@ -35,7 +35,7 @@ returns-then-at-rows-clause-gap c =
     let row = c.ahead-at.result.row in
     let until = rows_until n row c.args.blocks.now in
     let from = rows_at n row c.args.blocks.now in
-    let asked = c.of.ensures ∙ c.as_slice.ensures in
+    let asked = c.of_key.ensures in
     let below : until ≡ rows_below key all = c.ahead-at.ensures.until ∙ c.place_of.ensures.before ∙ ap (λ k. rows_below k all) asked in
     let after : from ≡ rows_after key all = c.ahead-at.ensures.from ∙ c.place_of.ensures.from ∙ ap (λ k. rows_after k all) asked in
     gap_none key all until from below after (c.ahead-at.ensures.end c.index-blocks-at.result (omega (arith, c.if-at-blocks.false))
@@ -61,7 +61,7 @@ returns-clause-gap c =
     let row = c.ahead-at.result.row in
     let until = rows_until n row c.args.blocks.now in
     let from = rows_at n row c.args.blocks.now in
-    let asked = c.of.ensures ∙ c.as_slice.ensures in
+    let asked = c.of_key.ensures in
     let below : until ≡ rows_below key all = c.ahead-at.ensures.until ∙ c.place_of.ensures.before ∙ ap (λ k. rows_below k all) asked in
     let after : from ≡ rows_after key all = c.ahead-at.ensures.from ∙ c.place_of.ensures.from ∙ ap (λ k. rows_after k all) asked in
     let r = c.index-rows-at.result in
