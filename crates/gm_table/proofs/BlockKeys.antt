@@ -1,5 +1,5 @@
 -- Rows round a key.
-use Rattle.std.proofs.Common.{◌≡◌, List, [], ◌∷◌, ◌++◌, ℕ, Bool, true, false, true≢false, cond, length, ◌+◌, refl, sym, ap, subst, ◌∙◌, arith}
+use Rattle.std.proofs.Common.{◌≡◌, List, [], ◌∷◌, ◌++◌, ℕ, true, false, true≢false, cond, length, ◌+◌, refl, sym, ap, subst, ◌∙◌, arith}
 use Rattle.std.specs.Prelude.{Option, None, Some, if◌then◌else◌}
 use Rattle.std.specs.Ordering.{nat_cmp, is_le, is_eq, ordering_reverse}
 use Rattle.std.specs.Cmp.{tied_itself}
@@ -15,7 +15,7 @@ use Rattle.gm_table.specs.Cursor.{rows_below, rows_after}
 use Rattle.gm_table.specs.Blocks.{IsGap}
 use Rattle.gm_table.specs.Changes.{given_back, restored_at}
 use Rattle.gm_table.proofs.Keys.{same_key}
-use Rattle.gm_table.proofs.BlockPlaces.{less_of, less_le}
+use Rattle.gm_table.proofs.BlockPlaces.{less_of}
 use Rattle.gm_table.proofs.BlockLookups.{none_later}
 use Rattle.gm_table.proofs.BlockWalks.{below_away}
 

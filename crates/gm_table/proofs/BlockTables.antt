@@ -3,7 +3,7 @@ use Rattle.std.proofs.Common.{◌≡◌, List, [], ◌∷◌, ◌++◌, ℕ, suc
 use Rattle.gm_table.specs.declared.row.Row.{Row}
 use Rattle.gm_table.specs.declared.blocks.block.Block.{Block}
 use Rattle.gm_table.specs.Sorted.{IsRising}
-use Rattle.gm_table.specs.Blocks.{pair_of, rows_of, lists_of, IsGap, IsRowAt, rows_at, rows_until}
+use Rattle.gm_table.specs.Blocks.{rows_of, lists_of, IsGap, IsRowAt, rows_at, rows_until}
 use Rattle.gm_table.proofs.BlockChanges.{at_row, both_sides}
 use Rattle.gm_table.proofs.BlockKeys.{Added, Changed, Taken, is_added, is_changed, is_taken}
 

@@ -1,8 +1,7 @@
-use Rattle.std.proofs.Common.{◌≡◌, ◌∷◌, ◌++◌, ◌<◌, suc, length, subst, sym, ap, ◌∙◌, get_or, arith}
-use Rattle.std.proofs.Math.ListN.{set}
+use Rattle.std.proofs.Common.{◌≡◌, ◌∷◌, ◌++◌, subst, sym, ap, ◌∙◌}
 use Rattle.std.specs.List.{insert}
 use Rattle.gm_table.specs.declared.blocks.block.Block.{Block}
-use Rattle.gm_table.specs.Blocks.{lists_of, pair_of, rows_at, rows_of, rows_until}
+use Rattle.gm_table.specs.Blocks.{pair_of, rows_at, rows_until}
 use Rattle.gm_table.proofs.BlockChanges.{both_sides, on_ok, on_err, set_more, set_same}
 use Rattle.gm_table.proofs.blocks.change.insert_row.Goals as goal
 

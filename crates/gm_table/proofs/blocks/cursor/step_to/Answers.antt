@@ -3,7 +3,7 @@ use Rattle.gm_table.specs.Blocks.{pairs_of}
 use Rattle.gm_table.specs.Cursor.{rows_after}
 use Rattle.gm_table.specs.Sorted.{IsRising}
 use Rattle.gm_table.proofs.BlockPlaces.{block_rises, rising_drop}
-use Rattle.gm_table.proofs.BlockWalks.{place_bound, Ends, ends_within}
+use Rattle.gm_table.proofs.BlockWalks.{place_bound, ends_within}
 use Rattle.gm_table.proofs.blocks.cursor.step_to.Goals as goal
 
 pub rest_of-rest-requires : goal.rest_of-rest-requires

@@ -1,5 +1,4 @@
-use Rattle.std.proofs.Common.{◌≡◌, ◌+◌, ◌<◌, ◌≤◌, suc, length, subst, sym, ap, ◌∙◌, get_or, arith}
-use Rattle.gm_table.specs.declared.blocks.block.Block.{Block}
+use Rattle.std.proofs.Common.{◌≡◌, ◌+◌, suc, subst, sym, ap, ◌∙◌, arith}
 use Rattle.gm_table.specs.Blocks.{IsPlace, rows_at, rows_until}
 use Rattle.gm_table.proofs.BlockPlaces.{block_at}
 use Rattle.gm_table.proofs.BlockChanges.{place_next, until_next, at_next, at_end}

@@ -1,10 +1,8 @@
 use Rattle.std.proofs.Common.{◌≡◌, ◌∷◌, ◌<◌, ◌≤◌, true, false, suc, length, subst, sym, ap, ◌∙◌, get_or, arith}
 use Rattle.std.proofs.lemmas.Grind.{common_steps}
-use Rattle.std.proofs.lemmas.List.{get_or_default}
 use Rattle.std.specs.Ordering.{nat_cmp, is_eq}
 use Rattle.std.specs.Cmp.Lexicographic.{slice_cmp}
 use Rattle.gm_table.specs.declared.row.Row.{Row}
-use Rattle.gm_table.specs.declared.blocks.block.Block.{Block}
 use Rattle.gm_table.specs.Blocks.{lists_of, pair_of, rows_at, rows_of, rows_until}
 use Rattle.gm_table.specs.Cursor.{rows_after, rows_below}
 use Rattle.gm_table.proofs.Keys.{same_key}

@@ -1,4 +1,4 @@
-use Rattle.std.proofs.Common.{◌≡◌, ◌≤◌, length, rules, of_calls}
+use Rattle.std.proofs.Common.{rules, of_calls}
 use Rattle.std.proofs.lemmas.Fn.{always_returns_same}
 use Rattle.gm_table.proofs.BlockPlaces.{Parts, is_before, partitioned, parts_at}
 use Rattle.gm_table.proofs.blocks.search.place_in.Goals as goal

@@ -1,4 +1,4 @@
-use Rattle.std.proofs.Common.{◌≡◌, ◌-◌, ◌≤◌, length, get_or, sym, ap, subst, ◌∙◌, arith}
+use Rattle.std.proofs.Common.{◌≡◌, ◌-◌, ◌≤◌, length, get_or, sym, subst, arith}
 use Rattle.gm_table.specs.Blocks.{pairs_of}
 use Rattle.gm_table.specs.Sorted.{IsRising}
 use Rattle.gm_table.proofs.BlockPlaces.{IsPlaceOf, Parts, first_place, later_place, block_rises}

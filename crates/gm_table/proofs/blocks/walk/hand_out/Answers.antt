@@ -1,4 +1,4 @@
-use Rattle.std.proofs.Common.{◌≡◌, ◌+◌, suc, ℕ, List, length, [], ◌∷◌, take, drop, map, refl, sym, ap, subst, arith, length-append}
+use Rattle.std.proofs.Common.{◌+◌, suc, ℕ, List, length, [], ◌∷◌, take, drop, refl, sym, ap, subst, arith, length-append}
 use Rattle.std.specs.Prelude.{Ok, Err, All}
 use Rattle.std.proofs.lemmas.Result.{err_from_is_err_and}
 use Rattle.std.proofs.lemmas.List.{length-map}

@@ -1,4 +1,4 @@
-use Rattle.std.proofs.Common.{◌≡◌, ◌+◌, ◌++◌, ◌<◌, ◌≤◌, suc, ℕ, List, length, drop, get_or, refl, sym, ap, subst, ◌∙◌, arith, length-drop}
+use Rattle.std.proofs.Common.{◌≡◌, ◌+◌, ◌++◌, ◌<◌, ◌≤◌, ℕ, List, length, drop, get_or, refl, sym, ap, subst, ◌∙◌, arith, length-drop}
 use Rattle.std.specs.Prelude.{All}
 use Rattle.std.proofs.lemmas.Result.{err_from_is_err_and}
 use Rattle.std.proofs.lemmas.List.Elements.{All-weaker}
@@ -10,7 +10,7 @@ use Rattle.gm_table.specs.Sorted.{IsRising}
 use Rattle.gm_table.specs.Visit.{Handed, Stops}
 use Rattle.gm_table.proofs.Spans.{All-middle, admits_after, stops_after, capped_more}
 use Rattle.gm_table.proofs.BlockPlaces.{block_rises, rising_drop}
-use Rattle.gm_table.proofs.BlockWalks.{place_bound, place_at, block_rows, Ends, ends_within, ends_last, next_block, Walk-rows, none_left, walked_out, Exit, exit}
+use Rattle.gm_table.proofs.BlockWalks.{place_bound, place_at, block_rows, Ends, ends_within, ends_last, next_block, Walk-rows, none_left, walked_out, exit}
 use Rattle.gm_table.proofs.blocks.walk.hand_out_until.Goals as goal
 
 pub rest_of-rest-requires : goal.rest_of-rest-requires

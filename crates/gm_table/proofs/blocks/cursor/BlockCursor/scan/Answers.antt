@@ -8,10 +8,10 @@ use Rattle.gm_base.specs.Counter.{capped_sum}
 use Rattle.gm_base.specs.Tally.{tally_number}
 use Rattle.gm_table.specs.Blocks.{lists_of, rows_of, rows_at}
 use Rattle.gm_table.specs.Sorted.{between}
-use Rattle.gm_table.specs.Cursor.{rows_below, rows_after}
+use Rattle.gm_table.specs.Cursor.{rows_after}
 use Rattle.gm_table.specs.Visit.{Handed, Stops}
 use Rattle.gm_table.proofs.Between.{between-backwards}
-use Rattle.gm_table.proofs.Places.{below-is, after-is, up_to}
+use Rattle.gm_table.proofs.Places.{after-is, up_to}
 use Rattle.gm_table.proofs.BlockWalks.{clear_none, between_is}
 use Rattle.gm_table.proofs.blocks.cursor.BlockCursor.scan.Goals as goal
 

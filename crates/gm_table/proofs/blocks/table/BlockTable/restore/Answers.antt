@@ -1,11 +1,11 @@
-use Rattle.std.proofs.Common.{◌≡◌, ◌+◌, ◌<◌, ◌≤◌, ℕ, suc, List, ◌∷◌, ◌++◌, Some, None, length, ap, sym, subst, ◌∙◌, arith}
+use Rattle.std.proofs.Common.{List, ap, sym, subst, ◌∙◌, arith}
 use Rattle.gm_table.specs.declared.blocks.block.Block.{Block}
 use Rattle.gm_table.specs.Blocks.{IsGap, IsRowAt, lists_of, rows_at, rows_of, rows_until}
 use Rattle.gm_table.specs.Changes.{restored_at}
 use Rattle.gm_table.specs.Sorted.{at_key}
 use Rattle.gm_table.proofs.BlockChanges.{both_sides}
-use Rattle.gm_table.proofs.BlockKeys.{Added, Changed, Taken, at_gap, had_there, restored_gap, removed_gap}
-use Rattle.gm_table.proofs.BlockTables.{table_added, table_changed, table_taken}
+use Rattle.gm_table.proofs.BlockKeys.{restored_gap}
+use Rattle.gm_table.proofs.BlockTables.{table_changed, table_taken}
 use Rattle.gm_table.proofs.blocks.table.BlockTable.restore.Goals as goal
 
 -- the row is taken out
