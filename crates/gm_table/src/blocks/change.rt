@@ -87,8 +87,8 @@ fn make_room(alloc: Global, list: &mut Vec<Block>, at: Place) -> Result<Place, N
 fn cut(alloc: Global, list: &mut Vec<Block>, n: usize) -> Result<(), NoMemory>
     requires each { AllByRecursion IsBlock list.old.items }
     requires within { n < length list.old.items }
-    requires many { (d : Block) → 256 ≤ length (slice_index_or list.old.items n d).rows }
-    ensures ok { OnOk result (IsCut n 128 list.old.items list.new.items) }
+    requires many { (d : Block) → MOST ≤ length (slice_index_or list.old.items n d).rows }
+    ensures ok { OnOk result (IsCut n HALF list.old.items list.new.items) }
     ensures err { OnErr result (rows_of (lists_of list.new.items)
         ≡ rows_of (lists_of list.old.items)) }
     ensures each { AllByRecursion IsBlock list.new.items }

@@ -4,6 +4,7 @@ use Rattle.std.proofs.lemmas.Grind.{common_steps}
 use Rattle.std.specs.List.{insert}
 use Rattle.std.specs.Prelude.{IsOk}
 use Rattle.gm_table.specs.declared.blocks.block.Block.{Block}
+use Rattle.gm_table.specs.declared.blocks.change.TheConstants.{HALF}
 use Rattle.gm_table.specs.Blocks.{lists_of, rows_of}
 use Rattle.gm_table.proofs.BlockChanges.{is_cut, set_same}
 use Rattle.gm_table.proofs.blocks.change.cut.Goals as goal
@@ -19,10 +20,10 @@ returns-in-Ok-clause-ok c =
     let is : d ≡ get_or blocks n d = c.index_mut.ensures.value ∙ ap (λ xs. get_or xs n d) kept in
     let room : IsOk c.insert.result = c.insert.ensures.succeeds (omega (arith, c.in_ok-reserve.ensures.ok)) in
     let made : c.insert.new.self.items ≡ insert (set c.reserve.new.self.items n first) (n + 1) second = grind (arith, common_steps) in
-    is_cut blocks c.insert.new.self.items n 128 first second d c.requires.within
+    is_cut blocks c.insert.new.self.items n HALF first second d c.requires.within
     (made ∙ ap (λ xs. insert (set xs n first) (n + 1) second) kept)
-    (c.in-Ok.ensures.front ∙ ap (λ (block : Block). take 128 block.rows) is)
-    (c.in-Ok.ensures.back ∙ ap (λ (block : Block). drop 128 block.rows) is)
+    (c.in-Ok.ensures.front ∙ ap (λ (block : Block). take HALF block.rows) is)
+    (c.in-Ok.ensures.back ∙ ap (λ (block : Block). drop HALF block.rows) is)
 
 pub returns-in-Err-clause-err : goal.returns-in-Err-clause-err
 returns-in-Err-clause-err c =

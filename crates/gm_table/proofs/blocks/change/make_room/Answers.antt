@@ -1,6 +1,7 @@
 use Rattle.std.proofs.Common.{◌≡◌, ◌+◌, ◌-◌, ◌<◌, ◌≤◌, suc, length, subst, sym, ap, ◌∙◌, get_or, arith}
 use Rattle.std.proofs.lemmas.List.{get_or_default}
 use Rattle.gm_table.specs.declared.blocks.block.Block.{Block}
+use Rattle.gm_table.specs.declared.blocks.change.TheConstants.{HALF, MOST}
 use Rattle.gm_table.specs.Blocks.{HasRoom, rows_at, rows_until}
 use Rattle.gm_table.proofs.BlockPlaces.{block_at}
 use Rattle.gm_table.proofs.BlockWalks.{place_bound}
@@ -33,7 +34,7 @@ cut-requires-clause-many c = λ e.
     let row = c.args.at.row in
     let d : Block = c.index.result.now in
     let within : n < length blocks = place_within blocks n row c.requires.some c.requires.place in
-    subst (λ (block : Block). 256 ≤ length block.rows) (c.index.ensures ∙ get_or_default blocks n d e within) (omega (arith, c.len.ensures, c.if-len-lt-MOST.false))
+    subst (λ (block : Block). MOST ≤ length block.rows) (c.index.ensures ∙ get_or_default blocks n d e within) (omega (arith, c.len.ensures, c.if-len-lt-MOST.false))
 
 pub returns-then-at-le-HALF-clause-room : goal.returns-then-at-le-HALF-clause-room
 returns-then-at-le-HALF-clause-room c =
@@ -42,8 +43,8 @@ returns-then-at-le-HALF-clause-room c =
     let row = c.args.at.row in
     let d : Block = c.index.result.now in
     let within : n < length blocks = place_within blocks n row c.requires.some c.requires.place in
-    let few : 128 ≤ length (get_or blocks n d).rows = subst (λ (block : Block). 128 ≤ length block.rows) c.index.ensures (omega (arith, c.len.ensures, c.if-len-lt-MOST.false)) in
-    let same = same_first blocks c.cut.new.list.items n 128 row d c.in_ok-cut.ensures.ok within c.if-at-le-HALF.true few (omega arith) in
+    let few : HALF ≤ length (get_or blocks n d).rows = subst (λ (block : Block). HALF ≤ length block.rows) c.index.ensures (omega (arith, c.len.ensures, c.if-len-lt-MOST.false)) in
+    let same = same_first blocks c.cut.new.list.items n HALF row d c.in_ok-cut.ensures.ok within c.if-at-le-HALF.true few (omega arith) in
     same.room
 
 pub returns-then-at-le-HALF-clause-until : goal.returns-then-at-le-HALF-clause-until
@@ -53,8 +54,8 @@ returns-then-at-le-HALF-clause-until c =
     let row = c.args.at.row in
     let d : Block = c.index.result.now in
     let within : n < length blocks = place_within blocks n row c.requires.some c.requires.place in
-    let few : 128 ≤ length (get_or blocks n d).rows = subst (λ (block : Block). 128 ≤ length block.rows) c.index.ensures (omega (arith, c.len.ensures, c.if-len-lt-MOST.false)) in
-    let same = same_first blocks c.cut.new.list.items n 128 row d c.in_ok-cut.ensures.ok within c.if-at-le-HALF.true few (omega arith) in
+    let few : HALF ≤ length (get_or blocks n d).rows = subst (λ (block : Block). HALF ≤ length block.rows) c.index.ensures (omega (arith, c.len.ensures, c.if-len-lt-MOST.false)) in
+    let same = same_first blocks c.cut.new.list.items n HALF row d c.in_ok-cut.ensures.ok within c.if-at-le-HALF.true few (omega arith) in
     same.until
 
 pub returns-then-at-le-HALF-clause-from : goal.returns-then-at-le-HALF-clause-from
@@ -64,8 +65,8 @@ returns-then-at-le-HALF-clause-from c =
     let row = c.args.at.row in
     let d : Block = c.index.result.now in
     let within : n < length blocks = place_within blocks n row c.requires.some c.requires.place in
-    let few : 128 ≤ length (get_or blocks n d).rows = subst (λ (block : Block). 128 ≤ length block.rows) c.index.ensures (omega (arith, c.len.ensures, c.if-len-lt-MOST.false)) in
-    let same = same_first blocks c.cut.new.list.items n 128 row d c.in_ok-cut.ensures.ok within c.if-at-le-HALF.true few (omega arith) in
+    let few : HALF ≤ length (get_or blocks n d).rows = subst (λ (block : Block). HALF ≤ length block.rows) c.index.ensures (omega (arith, c.len.ensures, c.if-len-lt-MOST.false)) in
+    let same = same_first blocks c.cut.new.list.items n HALF row d c.in_ok-cut.ensures.ok within c.if-at-le-HALF.true few (omega arith) in
     same.from
 
 pub overflow_add-result : goal.overflow_add-result
@@ -80,8 +81,8 @@ returns-clause-room c =
     let within : n < length blocks = place_within blocks n row c.requires.some c.requires.place in
     let next : n + 1 ≡ suc n = omega arith in
     let size = (block_at blocks c.requires.each n d within).sized.few in
-    let same = same_second blocks c.cut.new.list.items n 128 (row - 128) row d c.in_ok-cut.ensures.ok within (omega (arith, c.if-at-le-HALF.false)) (place_bound blocks n row d c.requires.place within) size (omega arith) in
-    subst (λ k. HasRoom k (row - 128) c.cut.new.list.items) (sym next) same.room
+    let same = same_second blocks c.cut.new.list.items n HALF (row - HALF) row d c.in_ok-cut.ensures.ok within (omega (arith, c.if-at-le-HALF.false)) (place_bound blocks n row d c.requires.place within) size (omega arith) in
+    subst (λ k. HasRoom k (row - HALF) c.cut.new.list.items) (sym next) same.room
 
 pub returns-clause-until : goal.returns-clause-until
 returns-clause-until c =
@@ -92,8 +93,8 @@ returns-clause-until c =
     let within : n < length blocks = place_within blocks n row c.requires.some c.requires.place in
     let next : n + 1 ≡ suc n = omega arith in
     let size = (block_at blocks c.requires.each n d within).sized.few in
-    let same = same_second blocks c.cut.new.list.items n 128 (row - 128) row d c.in_ok-cut.ensures.ok within (omega (arith, c.if-at-le-HALF.false)) (place_bound blocks n row d c.requires.place within) size (omega arith) in
-    ap (λ k. rows_until k (row - 128) c.cut.new.list.items) next ∙ same.until
+    let same = same_second blocks c.cut.new.list.items n HALF (row - HALF) row d c.in_ok-cut.ensures.ok within (omega (arith, c.if-at-le-HALF.false)) (place_bound blocks n row d c.requires.place within) size (omega arith) in
+    ap (λ k. rows_until k (row - HALF) c.cut.new.list.items) next ∙ same.until
 
 pub returns-clause-from : goal.returns-clause-from
 returns-clause-from c =
@@ -104,5 +105,5 @@ returns-clause-from c =
     let within : n < length blocks = place_within blocks n row c.requires.some c.requires.place in
     let next : n + 1 ≡ suc n = omega arith in
     let size = (block_at blocks c.requires.each n d within).sized.few in
-    let same = same_second blocks c.cut.new.list.items n 128 (row - 128) row d c.in_ok-cut.ensures.ok within (omega (arith, c.if-at-le-HALF.false)) (place_bound blocks n row d c.requires.place within) size (omega arith) in
-    ap (λ k. rows_at k (row - 128) c.cut.new.list.items) next ∙ same.from
+    let same = same_second blocks c.cut.new.list.items n HALF (row - HALF) row d c.in_ok-cut.ensures.ok within (omega (arith, c.if-at-le-HALF.false)) (place_bound blocks n row d c.requires.place within) size (omega arith) in
+    ap (λ k. rows_at k (row - HALF) c.cut.new.list.items) next ∙ same.from
