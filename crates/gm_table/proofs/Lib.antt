@@ -1,5 +1,11 @@
 pub mod Batches
 pub mod Between
+pub mod BlockChanges
+pub mod BlockKeys
+pub mod BlockLookups
+pub mod BlockPlaces
+pub mod BlockTables
+pub mod BlockWalks
 pub mod Handing
 pub mod Keys
 pub mod Places

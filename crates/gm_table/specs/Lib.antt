@@ -1,4 +1,6 @@
 pub mod Batch
+pub mod BlockTable
+pub mod Blocks
 pub mod Changes
 pub mod Cursor
 pub mod Replaying

@@ -2,6 +2,7 @@
 ghost use Rattle.std.specs.Prelude.{◌≡◌};
 ghost use Rattle.std.specs.Ordering.{nat_cmp, is_le};
 ghost use Rattle.std.specs.Cmp.Lexicographic.{slice_cmp};
+ghost use Rattle.gm_base.specs.Front.{IsFront};
 
 use gm_base::{Bytes, first_bytes, order_of_fronts};
 use std::marker::Model;
@@ -32,6 +33,29 @@ impl<'a> End<'a> {
             front: first_bytes(bytes),
             bytes,
         }
+    }
+
+    /// A key whose number is at hand.
+    pub(crate) fn of_key(key: &'a Bytes) -> End<'a>
+        ensures { result ≡ key.now }
+    {
+        End {
+            front: key.front(),
+            bytes: key.as_slice(),
+        }
+    }
+
+    /// The number of its first bytes.
+    pub(crate) fn front(&self) -> u128
+        ensures { IsFront result self.now }
+    {
+        self.front
+    }
+
+    pub(crate) fn bytes(&self) -> &[u8]
+        ensures { result.now ≡ self.now }
+    {
+        self.bytes
     }
 
     /// Whether the key is at this end or after it. Where the first bytes differ, the others are not

@@ -1,0 +1,11 @@
+use Rattle.std.proofs.Common.{ap, ◌∙◌}
+use Rattle.gm_table.specs.Blocks.{rows_of, lists_of}
+use Rattle.gm_table.specs.Cursor.{rows_after}
+use Rattle.gm_table.proofs.Places.{after-from}
+use Rattle.gm_table.proofs.blocks.cursor.place_from.Goals as goal
+
+pub returns : goal.returns
+returns c = record {
+  place = c.place_of.ensures.place;
+  rows = c.place_of.ensures.from ∙ ap (λ key. rows_after key (rows_of (lists_of c.args.blocks.now))) c.of.ensures ∙ after-from c.args.low.now (rows_of (lists_of c.args.blocks.now)) c.requires.rising;
+}

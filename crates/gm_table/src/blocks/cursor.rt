@@ -1,0 +1,201 @@
+// Spans of keys handed out from blocks, each from where the last one ended.
+ghost use Rattle.std.specs.Prelude.{◌≡◌, ◌≤◌, [], ◌∷◌, ℕ, All, slice_range, OnOk, IfOk, IfErr, IfSome, MatchOption, length, true};
+ghost use Rattle.std.specs.List.{AllByRecursion};
+ghost use Rattle.std.specs.Ordering.{nat_cmp, is_le};
+ghost use Rattle.std.specs.Cmp.Lexicographic.{slice_cmp};
+ghost use Rattle.gm_base.specs.Counter.{capped_sum};
+ghost use Rattle.gm_base.specs.Tally.{tally_number};
+ghost use Rattle.gm_table.specs.Blocks.{IsAtKey, IsBlock, IsPlace, lists_of, pair_of, rows_of, rows_at};
+ghost use Rattle.gm_table.specs.Cursor.{rows_below, rows_after};
+ghost use Rattle.gm_table.specs.Sorted.{IsRising, Rows, between};
+ghost use Rattle.gm_table.specs.Spans.{rows_in};
+ghost use Rattle.gm_table.specs.Visit.{Handed, Stops};
+
+use crate::blocks::block::Block;
+use crate::blocks::search::{Place, place_in, place_of};
+use crate::blocks::walk::{hand_out_until, rest_of};
+use crate::end::End;
+use crate::{Row, Visit};
+use gm_base::{NoMemory, SpanList, Tally};
+use std::alloc::Global;
+use std::ops::Range;
+
+/// The place of a key in some blocks.
+#[derive(Drop)]
+pub(crate) struct BlockCursor<'a> {
+    from: &'a [u8],
+    place: Place,
+}
+
+impl<'a> BlockCursor<'a> {
+    /// The place of this key.
+    pub(crate) fn at(blocks: &[Block], low: &'a [u8]) -> BlockCursor<'a>
+        requires each { AllByRecursion IsBlock blocks.now }
+        requires rising { IsRising (rows_of (lists_of blocks.now)) }
+        ensures { IsAtKey blocks.now result.from.now result.place.block result.place.row }
+    {
+        BlockCursor {
+            from: low,
+            place: place_from(blocks, low),
+        }
+    }
+
+    /// Hands out the rows between two keys, from where the cursor is if they may lie there.
+    pub(crate) fn scan<V: Visit>(
+        &mut self,
+        alloc: Global,
+        blocks: &[Block],
+        low: &'a [u8],
+        high: &'a [u8],
+        visit: &mut V,
+        tally: &mut Tally,
+    ) -> Result<(), NoMemory>
+        requires each { AllByRecursion IsBlock blocks.now }
+        requires rising { IsRising (rows_of (lists_of blocks.now)) }
+        requires at { IsAtKey blocks.now self.old.from.now self.old.place.block self.old.place.row }
+        requires admits { All (λ row. V.admits visit.old row.0 row.1)
+            (between low.now high.now (rows_of (lists_of blocks.now))) }
+        ensures at { OnOk result (IsAtKey blocks.now self.new.from.now self.new.place.block self.new.place.row) }
+        ensures handed { OnOk result (Handed V.takes visit.old
+            (between low.now high.now (rows_of (lists_of blocks.now))) visit.new) }
+        ensures tally { OnOk result (tally_number tally.new ≡ capped_sum (tally_number tally.old)
+            (length (between low.now high.now (rows_of (lists_of blocks.now))))) }
+        ensures stopped { IfErr result (λ fault. (handed : ℕ)
+            × Stops V.takes visit.old
+            (between low.now high.now (rows_of (lists_of blocks.now))) fault visit.new handed
+            × (tally_number tally.new ≡ capped_sum (tally_number tally.old) handed)) }
+    {
+        if self.is_clear(blocks, low, high) {
+            return Ok(());
+        }
+        if low.cmp(&high).is_gt() {
+            return Ok(());
+        }
+        let place = self.reach(blocks, low);
+        self.place = hand_out_until(alloc, blocks, place, &End::of(high), visit, tally)?;
+        self.from = high;
+        Ok(())
+    }
+
+    // Whether no row from the cursor's key on is below `high`, and `low` is not below that key.
+    fn is_clear(&self, blocks: &[Block], low: &[u8], high: &[u8]) -> bool
+        requires each { AllByRecursion IsBlock blocks.now }
+        requires place { IsPlace self.now.place.block self.now.place.row blocks.now }
+        ensures from { result ≡ true → is_le (slice_cmp nat_cmp self.now.from.now low.now) ≡ true }
+        ensures clear { result ≡ true →
+            rows_below high.now (rows_at self.now.place.block self.now.place.row blocks.now) ≡ [] }
+    {
+        if self.from.cmp(&low).is_gt() {
+            return false;
+        }
+        match row_at(blocks, self.place) {
+            Some(row) => End::of(high).is_reached(&row.key),
+            None => true,
+        }
+    }
+
+    // The place of a key: in the same block if it is there.
+    fn reach(&self, blocks: &[Block], low: &[u8]) -> Place
+        requires each { AllByRecursion IsBlock blocks.now }
+        requires rising { IsRising (rows_of (lists_of blocks.now)) }
+        requires at { IsAtKey blocks.now self.now.from.now self.now.place.block self.now.place.row }
+        ensures { IsAtKey blocks.now low.now result.block result.row }
+    {
+        if self.from.cmp(&low).is_le() {
+            if let Some(place) = step_to(blocks, self.place, &End::of(low)) {
+                return place;
+            }
+        }
+        place_from(blocks, low)
+    }
+}
+
+/// Hands out the rows of each span in this part of the list in turn, each from where the last one
+/// ended.
+pub(crate) fn scan_part<V: Visit>(
+    alloc: Global,
+    blocks: &[Block],
+    spans: &SpanList,
+    part: Range<usize>,
+    visit: &mut V,
+    tally: &mut Tally,
+) -> Result<(), NoMemory>
+    requires each { AllByRecursion IsBlock blocks.now }
+    requires rising { IsRising (rows_of (lists_of blocks.now)) }
+    requires part { (part.start ≤ part.end) × (part.end ≤ length spans.now) }
+    requires admits { All (λ row. V.admits visit.old row.0 row.1)
+        (rows_in (slice_range spans.now part.start part.end) (rows_of (lists_of blocks.now))) }
+    ensures handed { OnOk result (Handed V.takes visit.old
+        (rows_in (slice_range spans.now part.start part.end) (rows_of (lists_of blocks.now)))
+        visit.new) }
+    ensures tally { OnOk result (tally_number tally.new ≡ capped_sum (tally_number tally.old)
+        (length (rows_in (slice_range spans.now part.start part.end)
+        (rows_of (lists_of blocks.now))))) }
+    ensures stopped { IfErr result (λ fault. (handed : ℕ)
+        × Stops V.takes visit.old
+        (rows_in (slice_range spans.now part.start part.end) (rows_of (lists_of blocks.now)))
+        fault visit.new handed
+        × (tally_number tally.new ≡ capped_sum (tally_number tally.old) handed)) }
+{
+    if part.start == part.end {
+        return Ok(());
+    }
+    let mut cursor = BlockCursor::at(blocks, spans.get(part.start).0);
+    for i in part.start..part.end {
+        let (low, high) = spans.get(i);
+        cursor.scan(alloc, blocks, low, high, visit, tally)?;
+    }
+    Ok(())
+}
+
+// The place of a key.
+fn place_from(blocks: &[Block], low: &[u8]) -> Place
+    requires each { AllByRecursion IsBlock blocks.now }
+    requires rising { IsRising (rows_of (lists_of blocks.now)) }
+    ensures { IsAtKey blocks.now low.now result.block result.row }
+{
+    place_of(blocks, &End::of(low))
+}
+
+// The place of a key, where that is before a row of the place's block, from the place on.
+fn step_to(blocks: &[Block], at: Place, key: &End<'_>) -> Option<Place>
+    requires rising { IsRising (rows_of (lists_of blocks.now)) }
+    requires place { IsPlace at.block at.row blocks.now }
+    ensures place { IfSome result (λ end. IsPlace end.block end.row blocks.now) }
+    ensures rows { IfSome result (λ end. rows_at end.block end.row blocks.now
+        ≡ rows_after key.now (rows_at at.block at.row blocks.now)) }
+{
+    if at.block >= blocks.len() {
+        return None;
+    }
+    let rest = rest_of(blocks[at.block].rows.as_slice(), at.row);
+    let count = place_in(rest, key);
+    if count >= rest.len() {
+        return None;
+    }
+    Some(Place {
+        block: at.block,
+        row: at.row + count,
+    })
+}
+
+/// The first row from the place on.
+pub(crate) fn row_at(blocks: &[Block], at: Place) -> Option<&Row>
+    requires each { AllByRecursion IsBlock blocks.now }
+    requires place { IsPlace at.block at.row blocks.now }
+    ensures { MatchOption result (rows_at at.block at.row blocks.now ≡ [])
+        (λ row. (later : Rows) × (rows_at at.block at.row blocks.now ≡ pair_of row.now ∷ later)) }
+{
+    if at.block >= blocks.len() {
+        return None;
+    }
+    let rows = blocks[at.block].rows.as_slice();
+    if at.row < rows.len() {
+        return Some(&rows[at.row]);
+    }
+    let next = at.block + 1;
+    if next >= blocks.len() {
+        return None;
+    }
+    Some(&blocks[next].rows.as_slice()[0])
+}
