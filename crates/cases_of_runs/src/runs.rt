@@ -115,7 +115,15 @@ fn run_once<B: Sorted + Sync>(
     if plan.is_steady {
         run_steady(alloc, &script.words, bytes, store, tally)
     } else {
-        run_in_pieces(alloc, &script.words, bytes, plan.piece.max(1), failing, store, tally)
+        run_in_pieces(
+            alloc,
+            &script.words,
+            bytes,
+            plan.piece.max(1),
+            failing,
+            store,
+            tally,
+        )
     }
 }
 
