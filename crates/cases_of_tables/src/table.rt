@@ -1,16 +1,16 @@
 // Cases of tables.
-ghost use Rattle.std.specs.Prelude.{IfOk, IsTrue, ◌++◌, map};
-ghost use Rattle.gm_table.specs.Batch.{are_distinct};
+ghost use Rattle.std.specs.Prelude.{◌≡◌, IfOk, IsTrue, ◌++◌, map};
+ghost use Rattle.gm_table.specs.Batch.{are_distinct, has_key};
 ghost use Rattle.gm_table.specs.Row.{key_of};
 
 use crate::words;
 use gm_base::{Bytes, Items, NoMemory, SpanList, Tally};
-use gm_table::{Batch, MapTable, Row, Sorted, Visit};
+use gm_table::{Batch, BlockTable, MapTable, Row, Sorted, Visit, replay};
 use std::alloc::Global;
 
 pub fn answer(alloc: Global, word: &str, rest: &str) -> Result<String, NoMemory> {
     match word {
-        "find" => find(alloc, &filled(alloc)?, rest),
+        "find" => find(alloc, rest),
         "scan" => scan(alloc, rest),
         "scan_spans" => scan_spans(alloc, rest),
         _ => rows(alloc, rest.parse::<u64>().unwrap_or(0)),
@@ -128,9 +128,9 @@ fn removal(alloc: Global, key: &[u8]) -> Result<Batch, NoMemory>
     })
 }
 
-// A table with a=1, ab=12, b=two, after a row c that was taken out and an older b.
-fn filled(alloc: Global) -> Result<MapTable, NoMemory> {
-    let mut table = MapTable::new(alloc);
+// A table without rows gets a=1, ab=12, b=two, after a row c that was taken out and an older b.
+fn filled<B: Sorted>(alloc: Global, table: B) -> Result<B, NoMemory> {
+    let mut table = table;
     let puts: [(&[u8], &[u8]); 5] = [
         (b"b", b"2"),
         (b"a", b"1"),
@@ -145,8 +145,37 @@ fn filled(alloc: Global) -> Result<MapTable, NoMemory> {
     Ok(table)
 }
 
+fn map(alloc: Global) -> Result<MapTable, NoMemory> {
+    filled(alloc, MapTable::new(alloc))
+}
+
+fn blocks(alloc: Global) -> Result<BlockTable, NoMemory> {
+    filled(alloc, BlockTable::new(alloc))
+}
+
+fn plain(alloc: Global) -> Result<Plain, NoMemory> {
+    Ok(Plain { inner: map(alloc)? })
+}
+
+// What the map tells, and whether the other tables tell the same.
+fn agreed(alloc: Global, one: &str, others: [&str; 2]) -> Result<String, NoMemory> {
+    let same = others.iter().all(|other| *other == one);
+    Ok(format!(in alloc; "{one} {same}")?)
+}
+
 // What stands at a key, and how many rows were counted.
-fn find<B: Sorted<Tally = Tally>>(alloc: Global, table: &B, key: &str) -> Result<String, NoMemory> {
+fn find(alloc: Global, key: &str) -> Result<String, NoMemory> {
+    let one = at_key(alloc, &map(alloc)?, key)?;
+    let other = at_key(alloc, &plain(alloc)?, key)?;
+    let third = at_key(alloc, &blocks(alloc)?, key)?;
+    agreed(alloc, one.as_str(), [other.as_str(), third.as_str()])
+}
+
+fn at_key<B: Sorted<Tally = Tally>>(
+    alloc: Global,
+    table: &B,
+    key: &str,
+) -> Result<String, NoMemory> {
     let key = Bytes::from_slice(alloc, key.as_bytes())?;
     let mut tally = Tally::new();
     let bytes = table.get(&key, &mut tally);
@@ -158,16 +187,13 @@ fn find<B: Sorted<Tally = Tally>>(alloc: Global, table: &B, key: &str) -> Result
     Ok(format!(in alloc; "{text} {counted} of {}", table.count())?)
 }
 
-// The rows between two keys, by the map and by the trait.
+// The rows between two keys.
 fn scan(alloc: Global, ends: &str) -> Result<String, NoMemory> {
     let (low, high) = ends_of(ends);
-    let table = filled(alloc)?;
-    let one = scanned(alloc, &table, low, high)?;
-    let plain = Plain {
-        inner: filled(alloc)?,
-    };
-    let other = scanned(alloc, &plain, low, high)?;
-    Ok(format!(in alloc; "{} {}", one.as_str(), one.as_str() == other.as_str())?)
+    let one = scanned(alloc, &map(alloc)?, low, high)?;
+    let other = scanned(alloc, &plain(alloc)?, low, high)?;
+    let third = scanned(alloc, &blocks(alloc)?, low, high)?;
+    agreed(alloc, one.as_str(), [other.as_str(), third.as_str()])
 }
 
 fn ends_of(ends: &str) -> (&str, &str) {
@@ -206,7 +232,7 @@ fn told(
     Ok(format!(in alloc; "{text} {counted} {}", answer.is_ok())?)
 }
 
-// The rows of spans, with room for so many, by the map and by the trait: `9 ,a a,aa`.
+// The rows of spans, with room for so many: `9 ,a a,aa`.
 fn scan_spans(alloc: Global, case: &str) -> Result<String, NoMemory> {
     let (room, spans) = words::split(case);
     let room = room.parse::<u64>().unwrap_or(0);
@@ -215,13 +241,10 @@ fn scan_spans(alloc: Global, case: &str) -> Result<String, NoMemory> {
         let (low, high) = ends_of(span);
         list.push(&[low.as_bytes()], &[high.as_bytes()])?;
     }
-    let table = filled(alloc)?;
-    let one = spanned(alloc, &table, &list, room)?;
-    let plain = Plain {
-        inner: filled(alloc)?,
-    };
-    let other = spanned(alloc, &plain, &list, room)?;
-    Ok(format!(in alloc; "{} {}", one.as_str(), one.as_str() == other.as_str())?)
+    let one = spanned(alloc, &map(alloc)?, &list, room)?;
+    let other = spanned(alloc, &plain(alloc)?, &list, room)?;
+    let third = spanned(alloc, &blocks(alloc)?, &list, room)?;
+    agreed(alloc, one.as_str(), [other.as_str(), third.as_str()])
 }
 
 fn spanned<B: Sorted<Tally = Tally>>(
@@ -236,26 +259,84 @@ fn spanned<B: Sorted<Tally = Tally>>(
     told(alloc, &writer, answer, tally.close())
 }
 
-// So many rows, put one by one, and how many of them spans find that hold every third row, alone
-// and in runs of a hundred.
+// So many rows, put in by as many batches, over the map and over blocks, and how many blocks are left
+// where one batch takes all out.
 fn rows(alloc: Global, count: u64) -> Result<String, NoMemory> {
-    let mut table = MapTable::new(alloc);
+    let mut over_map = MapTable::new(alloc);
+    let one = replayed(alloc, &mut over_map, count)?;
+    let mut over_blocks = BlockTable::new(alloc);
+    let other = replayed(alloc, &mut over_blocks, count)?;
+    let same = one.as_str() == other.as_str();
+    let made = over_blocks.blocks();
+    let is_cut = 2 <= made && made <= 256;
+    take_all_out(alloc, &mut over_blocks, count)?;
+    Ok(format!(in alloc;
+        "{} {same}, 2 to 256 blocks {is_cut}, then {} blocks of {} rows",
+        one.as_str(),
+        over_blocks.blocks(),
+        over_blocks.count()
+    )?)
+}
+
+// How many rows a table without rows gets by one replay of batches of one in rising order, and how
+// many of them spans find that hold every third row, alone and in runs of a hundred.
+fn replayed<B: Sorted<Tally = Tally>>(
+    alloc: Global,
+    table: &mut B,
+    count: u64,
+) -> Result<String, NoMemory> {
+    let mut batches = Items::new(alloc);
     for i in 0..count {
         let key = i.to_be_bytes();
-        table.apply(alloc, &put(alloc, &key, &key)?)?;
+        batches.push(put(alloc, &key, &key)?)?;
     }
-    let thirds = found(alloc, &table, count, 3, 1)?;
-    let runs = found(alloc, &table, count, 300, 100)?;
+    replay(alloc, table, &batches)?;
+    let thirds = found(alloc, table, count, 3, 1)?;
+    let runs = found(alloc, table, count, 300, 100)?;
     Ok(format!(in alloc;
         "{} rows, {thirds} in thirds, {runs} in runs",
         table.count()
     )?)
 }
 
+// Takes the rows with these keys out by one batch.
+fn take_all_out<B: Sorted>(alloc: Global, table: &mut B, count: u64) -> Result<(), NoMemory> {
+    let mut keys = Vec::new(alloc);
+    for i in 0..count {
+        keys.push(Bytes::from_slice(alloc, &i.to_be_bytes())?)?;
+    }
+    if !are_apart(&keys) {
+        return Ok(());
+    }
+    table.apply(
+        alloc,
+        &Batch {
+            removes: Items::from_vec(keys),
+            puts: Items::new(alloc),
+        },
+    )
+}
+
+// Whether no two of the keys are the same.
+fn are_apart(keys: &[Bytes]) -> bool
+    ensures { result ≡ are_distinct keys.now }
+{
+    match keys {
+        [] => true,
+        [key, later @ ..] => !has(later, key) && are_apart(later),
+    }
+}
+
+fn has(keys: &[Bytes], key: &Bytes) -> bool
+    ensures { result ≡ has_key key.now keys.now }
+{
+    keys.iter().any(|other| key == other)
+}
+
 // The rows of spans of so many rows, each so many rows behind the one before.
-fn found(
+fn found<B: Sorted<Tally = Tally>>(
     alloc: Global,
-    table: &MapTable,
+    table: &B,
     count: u64,
     step: u64,
     wide: u64,
