@@ -97,6 +97,18 @@ has_row key blocks n row d e within inside is same = record {
   has = λ f g. same ∙ ap (λ (r : Row). r.key) (is ∙ get_or_default (get_or blocks n d).rows row e g inside) ∙ ap (λ (block : Block). (get_or block.rows row g).key) (get_or_default blocks n d f within);
 }
 
+-- a row in a block of its own behind all others
+pub one_behind : (blocks : List Block) (block : Block) (front : List Row) (row : Row) → block.rows ≡ front ++ row ∷ [] → front ≡ []
+    → rows_of (lists_of (blocks ++ block ∷ [])) ≡ rows_of (lists_of blocks) ++ pair_of row ∷ []
+one_behind blocks block front row is none =
+    rows_join blocks (block ∷ []) ∙ ap (λ (rows : List Row). rows_of (lists_of blocks) ++ (pairs_of rows ++ [])) (is ∙ ap (λ some. some ++ row ∷ []) none)
+
+pub end_behind : (blocks : List Block) (n at : ℕ) (row : Row) → rows_at n at blocks ≡ []
+    → rows_of (lists_of blocks) ++ pair_of row ∷ [] ≡ rows_until n at blocks ++ pair_of row ∷ rows_at n at blocks
+end_behind blocks n at row none =
+    ap (λ some. some ++ pair_of row ∷ []) (both_sides n at blocks ∙ ap (λ some. rows_until n at blocks ++ some) none ∙ append_none (rows_until n at blocks))
+    ∙ ap (λ some. rows_until n at blocks ++ pair_of row ∷ some) (sym none)
+
 -- ---- a block in place of another
 pub rows_set : (blocks : List Block) (n : ℕ) (new : Block) → n < length blocks
     → rows_of (lists_of (set blocks n new)) ≡ rows_of (lists_of (take n blocks)) ++ (pairs_of new.rows ++ rows_of (lists_of (drop (suc n) blocks)))

@@ -1,5 +1,5 @@
 // Blocks with one row more, with one row fewer, and with other bytes in a row.
-ghost use Rattle.std.specs.Prelude.{◌≡◌, ◌≤◌, ◌<◌, ◌+◌, ℕ, List, [], ◌∷◌, ◌++◌, length, take, drop, OnOk, OnErr, IfOk, slice_index_or, suc};
+ghost use Rattle.std.specs.Prelude.{◌≡◌, ◌≤◌, ◌<◌, ◌+◌, ℕ, List, [], ◌∷◌, ◌++◌, length, take, drop, OnOk, OnErr, IfOk, slice_index_or, suc, true, false};
 ghost use Rattle.std.specs.List.{AllByRecursion};
 ghost use Rattle.gm_table.specs.Blocks.{HasRoom, IsBlock, IsCut, IsPlace, IsRowAt, lists_of, pair_of, rows_at, rows_of, rows_until};
 ghost use Rattle.gm_table.specs.Sorted.{Rows};
@@ -36,18 +36,36 @@ pub(crate) fn insert_row(
         ≡ rows_of (lists_of list.old.items)) }
     ensures each { AllByRecursion IsBlock list.new.items }
 {
-    if list.is_empty() {
-        return insert_first(alloc, list, row);
+    if begins_block(list, at) {
+        return push_block(alloc, list, row);
     }
     let roomy = make_room(alloc, list, at)?;
     list[roomy.block].insert(alloc, roomy.row, row)
 }
 
-// Puts a first row in.
-fn insert_first(alloc: Global, list: &mut Vec<Block>, row: Row) -> Result<(), NoMemory>
-    requires { list.old.items ≡ [] }
-    ensures ok { OnOk result (rows_of (lists_of list.new.items) ≡ pair_of row ∷ []) }
-    ensures err { OnErr result (list.new.items ≡ []) }
+// Whether a row that is put in here begins a block: it is the first, or the last and there is no
+// room in the last block.
+fn begins_block(blocks: &[Block], at: Place) -> bool
+    requires { IsPlace at.block at.row blocks.now }
+    ensures end { result ≡ true → rows_at at.block at.row blocks.now ≡ [] }
+    ensures some { result ≡ false → 0 < length blocks.now }
+{
+    if at.block >= blocks.len() {
+        return true;
+    }
+    if blocks.len() - at.block > 1 {
+        return false;
+    }
+    let count = blocks[at.block].rows.len();
+    at.row >= count && count >= MOST
+}
+
+// Puts a row in behind all others, in a block of its own.
+fn push_block(alloc: Global, list: &mut Vec<Block>, row: Row) -> Result<(), NoMemory>
+    requires each { AllByRecursion IsBlock list.old.items }
+    ensures ok { OnOk result (rows_of (lists_of list.new.items)
+        ≡ rows_of (lists_of list.old.items) ++ pair_of row ∷ []) }
+    ensures err { OnErr result (list.new.items ≡ list.old.items) }
     ensures each { AllByRecursion IsBlock list.new.items }
 {
     let mut rows = Vec::new(alloc);

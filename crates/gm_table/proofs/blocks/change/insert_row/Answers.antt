@@ -1,9 +1,17 @@
-use Rattle.std.proofs.Common.{◌≡◌, ◌∷◌, ◌++◌, subst, sym, ap, ◌∙◌}
+use Rattle.std.proofs.Common.{◌≡◌, List, [], ◌∷◌, ◌++◌, ◌<◌, suc, length, subst, sym, ap, ◌∙◌, get_or, arith}
 use Rattle.std.specs.List.{insert}
 use Rattle.gm_table.specs.declared.blocks.block.Block.{Block}
 use Rattle.gm_table.specs.Blocks.{pair_of, rows_at, rows_until}
-use Rattle.gm_table.proofs.BlockChanges.{both_sides, on_ok, on_err, set_more, set_same}
+use Rattle.gm_table.proofs.BlockChanges.{both_sides, end_behind, on_ok, on_err, set_more, set_same}
 use Rattle.gm_table.proofs.blocks.change.insert_row.Goals as goal
+
+pub returns-then-begins_block-clause-ok : goal.returns-then-begins_block-clause-ok
+returns-then-begins_block-clause-ok c =
+    let old = c.args.list.now.items in
+    let n = c.args.at.block in
+    let row = c.args.at.row in
+    let none : rows_at n row old ≡ [] = subst (λ (blocks : List Block). rows_at n row blocks ≡ []) c.deref.ensures.value (c.begins_block.ensures.end c.if-begins_block.true) in
+    on_ok c.push_block.result _ _ (λ is. is ∙ end_behind old n row c.args.row none) c.push_block.ensures.ok
 
 pub returns-clause-ok : goal.returns-clause-ok
 returns-clause-ok c =
