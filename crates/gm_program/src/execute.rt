@@ -50,7 +50,8 @@ pub(crate) fn execute<B: Sorted>(
     requires suits { Suits store.old.types (order_of command) }
     ensures done { (s : State) → Holds s store.old.types (B.rows store.old.table)
         → IfOk result (λ reply. Executes (step _setting s (order_of command)) reply
-        store.new.types (B.rows store.new.table) (B.Tally.number tally.old) (B.Tally.number tally.new)) }
+        store.new.types (B.rows store.new.table) (B.Tally.number tally.old)
+        (B.Tally.number tally.new)) }
     ensures refused { IfOk result (λ reply. IsRefusal reply
         → (store.new.types ≡ store.old.types) × (B.rows store.new.table ≡ B.rows store.old.table)) }
 {

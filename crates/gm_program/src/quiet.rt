@@ -53,10 +53,13 @@ pub(crate) fn serve_quietly<B: Sorted>(
     tally: &mut B::Tally,
 ) -> Result<(), NoMemory>
     requires kept { HasMachine store.old.types (B.rows store.old.table) pending.old }
-    ensures serves { OnOk result ((m : Machine) → Keeps m store.old.types (B.rows store.old.table) pending.old →
+    ensures serves { OnOk result ((m : Machine)
+        → Keeps m store.old.types (B.rows store.old.table) pending.old →
         Serves setting m (complete_from [] bytes.now)
-        (moment store.old.types (B.rows store.old.table) pending.old (B.Tally.number tally.old) None)
-        (moment store.new.types (B.rows store.new.table) pending.new (B.Tally.number tally.new) None)) }
+        (moment store.old.types (B.rows store.old.table) pending.old
+        (B.Tally.number tally.old) None)
+        (moment store.new.types (B.rows store.new.table) pending.new
+        (B.Tally.number tally.new) None)) }
     ensures kept { OnOk result (HasMachine store.new.types (B.rows store.new.table) pending.new) }
 {
     let mut held = Vec::new(alloc);

@@ -51,46 +51,60 @@ pub fn run<S: Source, K: Sink, F: Folder, G: Gate + Sync, B: Sorted + Sync>(
     requires kept { HasState store.old.types (B.rows store.old.table) }
 
     // The headline.
-    ensures done { result ≡ Status.Done → (s : State) → Holds s store.old.types (B.rows store.old.table) → ForSome (options_of words.now) (λ options.
-        Ends options.generate (setting_of words.now) s (S.left source.old) (S.left source.new) store.new.types (B.rows store.new.table) (B.Tally.number tally.old) (B.Tally.number tally.new)
+    ensures done { result ≡ Status.Done → (s : State)
+        → Holds s store.old.types (B.rows store.old.table)
+        → ForSome (options_of words.now) (λ options.
+        Ends options.generate (setting_of words.now) s (S.left source.old)
+        (S.left source.new) store.new.types (B.rows store.new.table) (B.Tally.number tally.old)
+        (B.Tally.number tally.new)
         (K.written sink.old) (K.written sink.new) (K.flushed sink.new)) }
 
     // The store has a state again, so that a further run may take it up.
     ensures kept { result ≡ Status.Done → HasState store.new.types (B.rows store.new.table) }
 
     // With any status what was written is a front of the output.
-    ensures prefix { (s : State) → Holds s store.old.types (B.rows store.old.table) → ForSome (options_of words.now) (λ options.
-        ForSome (whole_output options.generate (setting_of words.now) s (S.left source.old)) (λ bytes. WritesPart bytes (K.written sink.old) (K.written sink.new))) }
+    ensures prefix { (s : State) → Holds s store.old.types (B.rows store.old.table)
+        → ForSome (options_of words.now) (λ options.
+        ForSome (whole_output options.generate (setting_of words.now) s (S.left source.old))
+        (λ bytes. WritesPart bytes (K.written sink.old) (K.written sink.new))) }
 
     // With ReadFault it is the replies to the lines that were taken whole.
-    ensures read { result ≡ Status.ReadFault → (s : State) → Holds s store.old.types (B.rows store.old.table) → ForSome (S.left source.old) (λ script.
-        RepliesToTaken (setting_of words.now) s script (S.left source.new) (K.written sink.old) (K.written sink.new)) }
+    ensures read { result ≡ Status.ReadFault → (s : State)
+        → Holds s store.old.types (B.rows store.old.table) → ForSome (S.left source.old) (λ script.
+        RepliesToTaken (setting_of words.now) s script (S.left source.new) (K.written sink.old)
+        (K.written sink.new)) }
 
     // Faulty words are Usage; only want of memory may come in its place.
     ensures usage { result ≡ Status.Usage → options_of words.now ≡ None }
-    ensures faulty { options_of words.now ≡ None → (result ≡ Status.Usage) ⊎ (result ≡ Status.NoMemory) }
+    ensures faulty { options_of words.now ≡ None
+        → (result ≡ Status.Usage) ⊎ (result ≡ Status.NoMemory) }
     ensures untouched_sink { options_of words.now ≡ None → sink.new ≡ sink.old }
     ensures untouched_folder { folder.new ≡ folder.old }
 
     // Where no script of the source is asked for, it is not read, whatever the status.
     ensures untouched_source { NeedNoSource (options_of words.now) → source.new ≡ source.old }
-    ensures unread { NeedNoSource (options_of words.now) → (result ≢ Status.ReadFault) × (result ≢ Status.TooLong) }
+    ensures unread { NeedNoSource (options_of words.now)
+        → (result ≢ Status.ReadFault) × (result ≢ Status.TooLong) }
 
     // The causes.
-    ensures read_fault { result ≡ Status.ReadFault → Rose (S.faults source.old) (S.faults source.new) }
-    ensures write_fault { result ≡ Status.WriteFault → Rose (K.faults sink.old) (K.faults sink.new) }
+    ensures read_fault { result ≡ Status.ReadFault
+        → Rose (S.faults source.old) (S.faults source.new) }
+    ensures write_fault { result ≡ Status.WriteFault
+        → Rose (K.faults sink.old) (K.faults sink.new) }
     ensures no_folder_fault { result ≢ Status.FolderFault }
     ensures not_damaged { result ≢ Status.Damaged }
     ensures too_long { ForSome (S.left source.old) (λ script. ForSome (S.left source.new) (λ rest.
         (result ≡ Status.TooLong) ↔ (length script ≡ length rest + 2 ^ 40))) }
 
     // Whatever the status, no more than 2^40 bytes are taken.
-    ensures most { ForSome (S.left source.old) (λ script. ForSome (S.left source.new) (λ rest. length script ≤ length rest + 2 ^ 40)) }
+    ensures most { ForSome (S.left source.old)
+        (λ script. ForSome (S.left source.new) (λ rest. length script ≤ length rest + 2 ^ 40)) }
 
     // Where nothing of the outside fails it gives up for want of memory alone.
     ensures complete { ForSome (options_of words.now) (λ options.
         CanBeRead options.generate (S.left source.old) (S.faults source.old) (S.faults source.new)
-        → (Rose (K.faults sink.old) (K.faults sink.new) → ⊥) → (result ≡ Status.Done) ⊎ (result ≡ Status.NoMemory)) }
+        → (Rose (K.faults sink.old) (K.faults sink.new) → ⊥)
+        → (result ≡ Status.Done) ⊎ (result ≡ Status.NoMemory)) }
 {
     let _folder = folder;
     let _gate = gate;
@@ -115,12 +129,18 @@ fn serve_all<S: Source, K: Sink, B: Sorted>(
     tally: &mut B::Tally,
 ) -> Result<(), Stop>
     requires kept { HasState store.old.types (B.rows store.old.table) }
-    ensures done { OnOk result ((s : State) → Holds s store.old.types (B.rows store.old.table) → ForSome (S.left source.old) (λ script. (length script < 2 ^ 40)
-        × Finishes setting s script (S.left source.new) store.new.types (B.rows store.new.table) (B.Tally.number tally.old) (B.Tally.number tally.new) (K.written sink.old) (K.written sink.new) (K.flushed sink.new))) }
+    ensures done { OnOk result ((s : State) → Holds s store.old.types (B.rows store.old.table)
+        → ForSome (S.left source.old) (λ script. (length script < 2 ^ 40)
+        × Finishes setting s script (S.left source.new) store.new.types (B.rows store.new.table)
+        (B.Tally.number tally.old) (B.Tally.number tally.new) (K.written sink.old)
+        (K.written sink.new) (K.flushed sink.new))) }
     ensures kept { OnOk result (HasState store.new.types (B.rows store.new.table)) }
-    ensures stopped { IfErr result (λ stop. (s : State) → Holds s store.old.types (B.rows store.old.table) → ForSome (S.left source.old) (λ script.
-        Stopped setting s stop script (S.left source.new) (K.written sink.old) (K.written sink.new))) }
-    ensures cause { HasCause result (S.faults source.old) (S.faults source.new) (K.faults sink.old) (K.faults sink.new) }
+    ensures stopped { IfErr result (λ stop. (s : State)
+        → Holds s store.old.types (B.rows store.old.table) → ForSome (S.left source.old) (λ script.
+        Stopped setting s stop script (S.left source.new) (K.written sink.old)
+        (K.written sink.new))) }
+    ensures cause { HasCause result (S.faults source.old) (S.faults source.new) (K.faults sink.old)
+        (K.faults sink.new) }
 {
     let Ok(mut piece) = vec![in alloc; 0u8; PIECE] else {
         return Err(Stop::NoMemory);
@@ -164,13 +184,19 @@ fn serve_pieces<S: Source, K: Sink, B: Sorted>(
     requires room { 0 < length piece.old }
     requires none { held.old.items ≡ [] }
     requires kept { HasMachine store.old.types (B.rows store.old.table) pending.old }
-    ensures streams { OnOk result ((n : ℕ) × (n < 2 ^ 40) × Streams setting [] held.new.items (S.left source.old) (S.left source.new)
-        (moment store.old.types (B.rows store.old.table) pending.old (B.Tally.number tally.old) (K.written sink.old))
-        (moment store.new.types (B.rows store.new.table) pending.new (B.Tally.number tally.new) (K.written sink.new)) n) }
+    ensures streams { OnOk result ((n : ℕ) × (n < 2 ^ 40)
+        × Streams setting [] held.new.items (S.left source.old) (S.left source.new)
+        (moment store.old.types (B.rows store.old.table) pending.old (B.Tally.number tally.old)
+        (K.written sink.old))
+        (moment store.new.types (B.rows store.new.table) pending.new (B.Tally.number tally.new)
+        (K.written sink.new)) n) }
     ensures end { OnOk result (ForSome (S.left source.old) (λ _. S.left source.new ≡ Some [])) }
-    ensures breaks { IfErr result (λ stop. Breaks setting stop (2 ^ 40) [] (S.left source.old) (S.left source.new)
-        (moment store.old.types (B.rows store.old.table) pending.old (B.Tally.number tally.old) (K.written sink.old)) (K.written sink.new)) }
-    ensures cause { HasCause result (S.faults source.old) (S.faults source.new) (K.faults sink.old) (K.faults sink.new) }
+    ensures breaks { IfErr result
+        (λ stop. Breaks setting stop (2 ^ 40) [] (S.left source.old) (S.left source.new)
+        (moment store.old.types (B.rows store.old.table) pending.old (B.Tally.number tally.old)
+        (K.written sink.old)) (K.written sink.new)) }
+    ensures cause { HasCause result (S.faults source.old) (S.faults source.new) (K.faults sink.old)
+        (K.faults sink.new) }
 {
     let mut budget = SCRIPT_LIMIT;
     'pieces: loop {
@@ -200,14 +226,21 @@ fn serve_next<S: Source, K: Sink, B: Sorted>(
     requires budget { 0 < budget }
     requires room { 0 < length piece.old }
     requires kept { HasMachine store.old.types (B.rows store.old.table) pending.old }
-    ensures streams { IfOk result (λ n. (start : List ℕ) → held.old.items ≡ cut start → Streams setting start held.new.items (S.left source.old) (S.left source.new)
-        (moment store.old.types (B.rows store.old.table) pending.old (B.Tally.number tally.old) (K.written sink.old))
-        (moment store.new.types (B.rows store.new.table) pending.new (B.Tally.number tally.new) (K.written sink.new)) n) }
+    ensures streams { IfOk result (λ n. (start : List ℕ) → held.old.items ≡ cut start
+        → Streams setting start held.new.items (S.left source.old) (S.left source.new)
+        (moment store.old.types (B.rows store.old.table) pending.old (B.Tally.number tally.old)
+        (K.written sink.old))
+        (moment store.new.types (B.rows store.new.table) pending.new (B.Tally.number tally.new)
+        (K.written sink.new)) n) }
     ensures below { IfOk result (λ n. n < budget) }
-    ensures end { IfOk result (λ n. n ≡ 0 → ForSome (S.left source.old) (λ _. S.left source.new ≡ Some [])) }
-    ensures breaks { IfErr result (λ stop. (start : List ℕ) → held.old.items ≡ cut start → Breaks setting stop budget start (S.left source.old) (S.left source.new)
-        (moment store.old.types (B.rows store.old.table) pending.old (B.Tally.number tally.old) (K.written sink.old)) (K.written sink.new)) }
-    ensures cause { HasCause result (S.faults source.old) (S.faults source.new) (K.faults sink.old) (K.faults sink.new) }
+    ensures end { IfOk result (λ n. n ≡ 0
+        → ForSome (S.left source.old) (λ _. S.left source.new ≡ Some [])) }
+    ensures breaks { IfErr result (λ stop. (start : List ℕ) → held.old.items ≡ cut start
+        → Breaks setting stop budget start (S.left source.old) (S.left source.new)
+        (moment store.old.types (B.rows store.old.table) pending.old (B.Tally.number tally.old)
+        (K.written sink.old)) (K.written sink.new)) }
+    ensures cause { HasCause result (S.faults source.old) (S.faults source.new) (K.faults sink.old)
+        (K.faults sink.new) }
 {
     let room = piece.len().min(budget);
     let part = &mut piece[..room];
@@ -243,11 +276,13 @@ fn serve_made<K: Sink, B: Sorted>(
 ) -> Result<(), SinkRefusal>
     requires kept { HasState store.old.types (B.rows store.old.table) }
     ensures done { OnOk result ((s : State) → Holds s store.old.types (B.rows store.old.table) →
-        Loads setting s made store.new.types (B.rows store.new.table) (B.Tally.number tally.old) (B.Tally.number tally.new) (K.written sink.old) (K.written sink.new) (K.flushed sink.new)) }
+        Loads setting s made store.new.types (B.rows store.new.table) (B.Tally.number tally.old)
+        (B.Tally.number tally.new) (K.written sink.old) (K.written sink.new) (K.flushed sink.new)) }
     ensures kept { OnOk result (HasState store.new.types (B.rows store.new.table)) }
     ensures part { OnErr result ((s : State) → Holds s store.old.types (B.rows store.old.table) →
         WritesPart (made_output setting s made) (K.written sink.old) (K.written sink.new)) }
-    ensures cause { IsErrOf result SinkRefusal.Failed → Rose (K.faults sink.old) (K.faults sink.new) }
+    ensures cause { IsErrOf result SinkRefusal.Failed
+        → Rose (K.faults sink.old) (K.faults sink.new) }
 {
     let mut pending = Pending::Nothing;
     let Made { seed, count } = made;
@@ -278,10 +313,13 @@ fn load<B: Sorted>(
     tally: &mut B::Tally,
 ) -> Result<(), NoMemory>
     requires kept { HasMachine store.old.types (B.rows store.old.table) pending.old }
-    ensures serves { OnOk result ((m : Machine) → Keeps m store.old.types (B.rows store.old.table) pending.old →
+    ensures serves { OnOk result ((m : Machine)
+        → Keeps m store.old.types (B.rows store.old.table) pending.old →
         Serves setting m (lines_of (loading seed count))
-        (moment store.old.types (B.rows store.old.table) pending.old (B.Tally.number tally.old) None)
-        (moment store.new.types (B.rows store.new.table) pending.new (B.Tally.number tally.new) None)) }
+        (moment store.old.types (B.rows store.old.table) pending.old
+        (B.Tally.number tally.old) None)
+        (moment store.new.types (B.rows store.new.table) pending.new
+        (B.Tally.number tally.new) None)) }
     ensures kept { OnOk result (HasMachine store.new.types (B.rows store.new.table) pending.new) }
 {
     match generator::loading(alloc, seed, count) {
@@ -301,14 +339,20 @@ fn serve_whole<K: Sink, B: Sorted>(
     tally: &mut B::Tally,
 ) -> Result<(), SinkRefusal>
     requires kept { HasMachine store.old.types (B.rows store.old.table) pending.old }
-    ensures ok { OnOk result ((m : Machine) → Keeps m store.old.types (B.rows store.old.table) pending.old →
+    ensures ok { OnOk result ((m : Machine)
+        → Keeps m store.old.types (B.rows store.old.table) pending.old →
         Closes setting m (lines_of script.now)
-        (moment store.old.types (B.rows store.old.table) pending.old (B.Tally.number tally.old) (K.written sink.old))
-        (moment store.new.types (B.rows store.new.table) pending.new (B.Tally.number tally.new) (K.written sink.new))) }
-    ensures err { OnErr result ((m : Machine) → Keeps m store.old.types (B.rows store.old.table) pending.old →
-        WritesPart (closing setting m (lines_of script.now)) (K.written sink.old) (K.written sink.new)) }
+        (moment store.old.types (B.rows store.old.table) pending.old (B.Tally.number tally.old)
+        (K.written sink.old))
+        (moment store.new.types (B.rows store.new.table) pending.new (B.Tally.number tally.new)
+        (K.written sink.new))) }
+    ensures err { OnErr result ((m : Machine)
+        → Keeps m store.old.types (B.rows store.old.table) pending.old →
+        WritesPart (closing setting m (lines_of script.now)) (K.written sink.old)
+        (K.written sink.new)) }
     ensures kept { OnOk result (HasMachine store.new.types (B.rows store.new.table) pending.new) }
-    ensures cause { IsErrOf result SinkRefusal.Failed → Rose (K.faults sink.old) (K.faults sink.new) }
+    ensures cause { IsErrOf result SinkRefusal.Failed
+        → Rose (K.faults sink.old) (K.faults sink.new) }
     ensures later { K.faults sink.old ≤ K.faults sink.new }
 {
     let mut held = Vec::new(alloc);
@@ -331,14 +375,20 @@ fn serve_last<K: Sink, B: Sorted>(
     tally: &mut B::Tally,
 ) -> Result<(), SinkRefusal>
     requires kept { HasMachine store.old.types (B.rows store.old.table) pending.old }
-    ensures ok { OnOk result ((start : List ℕ) (m : Machine) → held.now ≡ cut start → Keeps m store.old.types (B.rows store.old.table) pending.old →
+    ensures ok { OnOk result ((start : List ℕ) (m : Machine) → held.now ≡ cut start
+        → Keeps m store.old.types (B.rows store.old.table) pending.old →
         Closes setting m (last_line start)
-        (moment store.old.types (B.rows store.old.table) pending.old (B.Tally.number tally.old) (K.written sink.old))
-        (moment store.new.types (B.rows store.new.table) pending.new (B.Tally.number tally.new) (K.written sink.new))) }
-    ensures err { OnErr result ((start : List ℕ) (m : Machine) → held.now ≡ cut start → Keeps m store.old.types (B.rows store.old.table) pending.old →
-        WritesPart (closing setting m (last_line start)) (K.written sink.old) (K.written sink.new)) }
+        (moment store.old.types (B.rows store.old.table) pending.old (B.Tally.number tally.old)
+        (K.written sink.old))
+        (moment store.new.types (B.rows store.new.table) pending.new (B.Tally.number tally.new)
+        (K.written sink.new))) }
+    ensures err { OnErr result ((start : List ℕ) (m : Machine) → held.now ≡ cut start
+        → Keeps m store.old.types (B.rows store.old.table) pending.old →
+        WritesPart (closing setting m (last_line start)) (K.written sink.old)
+        (K.written sink.new)) }
     ensures kept { OnOk result (HasMachine store.new.types (B.rows store.new.table) pending.new) }
-    ensures cause { IsErrOf result SinkRefusal.Failed → Rose (K.faults sink.old) (K.faults sink.new) }
+    ensures cause { IsErrOf result SinkRefusal.Failed
+        → Rose (K.faults sink.old) (K.faults sink.new) }
     ensures later { K.faults sink.old ≤ K.faults sink.new }
 {
     if let Err(refusal) = serve_rest(alloc, setting, held, sink, store, pending, tally) {
@@ -358,14 +408,20 @@ fn serve_rest<K: Sink, B: Sorted>(
     tally: &mut B::Tally,
 ) -> Result<(), SinkRefusal>
     requires kept { HasMachine store.old.types (B.rows store.old.table) pending.old }
-    ensures ok { OnOk result ((start : List ℕ) (m : Machine) → held.now ≡ cut start → Keeps m store.old.types (B.rows store.old.table) pending.old →
+    ensures ok { OnOk result ((start : List ℕ) (m : Machine) → held.now ≡ cut start
+        → Keeps m store.old.types (B.rows store.old.table) pending.old →
         Serves setting m (last_line start)
-        (moment store.old.types (B.rows store.old.table) pending.old (B.Tally.number tally.old) (K.written sink.old))
-        (moment store.new.types (B.rows store.new.table) pending.new (B.Tally.number tally.new) (K.written sink.new))) }
-    ensures err { OnErr result ((start : List ℕ) (m : Machine) → held.now ≡ cut start → Keeps m store.old.types (B.rows store.old.table) pending.old →
-        WritesPart (replies setting m (last_line start)) (K.written sink.old) (K.written sink.new)) }
+        (moment store.old.types (B.rows store.old.table) pending.old (B.Tally.number tally.old)
+        (K.written sink.old))
+        (moment store.new.types (B.rows store.new.table) pending.new (B.Tally.number tally.new)
+        (K.written sink.new))) }
+    ensures err { OnErr result ((start : List ℕ) (m : Machine) → held.now ≡ cut start
+        → Keeps m store.old.types (B.rows store.old.table) pending.old →
+        WritesPart (replies setting m (last_line start)) (K.written sink.old)
+        (K.written sink.new)) }
     ensures kept { OnOk result (HasMachine store.new.types (B.rows store.new.table) pending.new) }
-    ensures cause { IsErrOf result SinkRefusal.Failed → Rose (K.faults sink.old) (K.faults sink.new) }
+    ensures cause { IsErrOf result SinkRefusal.Failed
+        → Rose (K.faults sink.old) (K.faults sink.new) }
     ensures later { K.faults sink.old ≤ K.faults sink.new }
 {
     if held.is_empty() {

@@ -27,7 +27,8 @@ const HELD_LIMIT: usize = LINE_LIMIT + 1;
 fn write_all<K: Sink>(alloc: Global, sink: &mut K, bytes: &[u8]) -> Result<(), SinkRefusal>
     ensures ok { OnOk result (Writes bytes.now (K.written sink.old) (K.written sink.new)) }
     ensures err { OnErr result (WritesPart bytes.now (K.written sink.old) (K.written sink.new)) }
-    ensures cause { IsErrOf result SinkRefusal.Failed → Rose (K.faults sink.old) (K.faults sink.new) }
+    ensures cause { IsErrOf result SinkRefusal.Failed
+        → Rose (K.faults sink.old) (K.faults sink.new) }
     ensures later { K.faults sink.old ≤ K.faults sink.new }
 {
     let mut at = 0;
@@ -44,7 +45,8 @@ fn write_all<K: Sink>(alloc: Global, sink: &mut K, bytes: &[u8]) -> Result<(), S
 fn say<K: Sink>(alloc: Global, reply: Option<Reply>, sink: &mut K) -> Result<(), SinkRefusal>
     ensures ok { OnOk result (Writes (said reply) (K.written sink.old) (K.written sink.new)) }
     ensures err { OnErr result (WritesPart (said reply) (K.written sink.old) (K.written sink.new)) }
-    ensures cause { IsErrOf result SinkRefusal.Failed → Rose (K.faults sink.old) (K.faults sink.new) }
+    ensures cause { IsErrOf result SinkRefusal.Failed
+        → Rose (K.faults sink.old) (K.faults sink.new) }
     ensures later { K.faults sink.old ≤ K.faults sink.new }
 {
     let Some(reply) = reply else {
@@ -67,13 +69,19 @@ pub(crate) fn serve_line<K: Sink, B: Sorted>(
     tally: &mut B::Tally,
 ) -> Result<(), SinkRefusal>
     requires kept { HasMachine store.old.types (B.rows store.old.table) pending.old }
-    ensures ok { OnOk result ((m : Machine) → Keeps m store.old.types (B.rows store.old.table) pending.old → Serves setting m (line.now ∷ [])
-        (moment store.old.types (B.rows store.old.table) pending.old (B.Tally.number tally.old) (K.written sink.old))
-        (moment store.new.types (B.rows store.new.table) pending.new (B.Tally.number tally.new) (K.written sink.new))) }
-    ensures err { OnErr result ((m : Machine) → Keeps m store.old.types (B.rows store.old.table) pending.old →
+    ensures ok { OnOk result ((m : Machine)
+        → Keeps m store.old.types (B.rows store.old.table) pending.old
+        → Serves setting m (line.now ∷ [])
+        (moment store.old.types (B.rows store.old.table) pending.old (B.Tally.number tally.old)
+        (K.written sink.old))
+        (moment store.new.types (B.rows store.new.table) pending.new (B.Tally.number tally.new)
+        (K.written sink.new))) }
+    ensures err { OnErr result ((m : Machine)
+        → Keeps m store.old.types (B.rows store.old.table) pending.old →
         WritesPart (replies setting m (line.now ∷ [])) (K.written sink.old) (K.written sink.new)) }
     ensures kept { OnOk result (HasMachine store.new.types (B.rows store.new.table) pending.new) }
-    ensures cause { IsErrOf result SinkRefusal.Failed → Rose (K.faults sink.old) (K.faults sink.new) }
+    ensures cause { IsErrOf result SinkRefusal.Failed
+        → Rose (K.faults sink.old) (K.faults sink.new) }
     ensures later { K.faults sink.old ≤ K.faults sink.new }
 {
     match take_line(alloc, setting, line, store, pending, tally) {
@@ -92,14 +100,20 @@ pub(crate) fn serve_end<K: Sink, B: Sorted>(
     tally: &mut B::Tally,
 ) -> Result<(), SinkRefusal>
     requires kept { HasMachine store.old.types (B.rows store.old.table) pending.old }
-    ensures ok { OnOk result ((m : Machine) → Keeps m store.old.types (B.rows store.old.table) pending.old →
-        Goes (end_turn setting m).machine (said (end_turn setting m).reply) (end_turn setting m).examined
-        (moment store.old.types (B.rows store.old.table) pending.old (B.Tally.number tally.old) (K.written sink.old))
-        (moment store.new.types (B.rows store.new.table) pending.new (B.Tally.number tally.new) (K.written sink.new))) }
-    ensures err { OnErr result ((m : Machine) → Keeps m store.old.types (B.rows store.old.table) pending.old →
+    ensures ok { OnOk result ((m : Machine)
+        → Keeps m store.old.types (B.rows store.old.table) pending.old →
+        Goes (end_turn setting m).machine (said (end_turn setting m).reply)
+        (end_turn setting m).examined
+        (moment store.old.types (B.rows store.old.table) pending.old (B.Tally.number tally.old)
+        (K.written sink.old))
+        (moment store.new.types (B.rows store.new.table) pending.new (B.Tally.number tally.new)
+        (K.written sink.new))) }
+    ensures err { OnErr result ((m : Machine)
+        → Keeps m store.old.types (B.rows store.old.table) pending.old →
         WritesPart (said (end_turn setting m).reply) (K.written sink.old) (K.written sink.new)) }
     ensures kept { OnOk result (HasMachine store.new.types (B.rows store.new.table) pending.new) }
-    ensures cause { IsErrOf result SinkRefusal.Failed → Rose (K.faults sink.old) (K.faults sink.new) }
+    ensures cause { IsErrOf result SinkRefusal.Failed
+        → Rose (K.faults sink.old) (K.faults sink.new) }
     ensures later { K.faults sink.old ≤ K.faults sink.new }
 {
     match take_end(setting, store, pending, tally) {
@@ -118,8 +132,11 @@ fn take_line<B: Sorted>(
     tally: &mut B::Tally,
 ) -> Result<Option<Reply>, NoMemory>
     requires kept { HasMachine store.old.types (B.rows store.old.table) pending.old }
-    ensures { (m : Machine) → Keeps m store.old.types (B.rows store.old.table) pending.old → IfOk result (λ reply.
-        Takes (line_turn setting m line.now) reply store.new.types (B.rows store.new.table) pending.new (B.Tally.number tally.old) (B.Tally.number tally.new)) }
+    ensures { (m : Machine) → Keeps m store.old.types (B.rows store.old.table) pending.old
+        → IfOk result (λ reply.
+        Takes (line_turn setting m line.now) reply store.new.types
+        (B.rows store.new.table) pending.new (B.Tally.number tally.old)
+        (B.Tally.number tally.new)) }
 {
     match *pending {
         Pending::Nothing => reply_to(alloc, setting, line, store, tally),
@@ -133,8 +150,10 @@ fn take_end<B: Sorted>(
     pending: &mut Pending,
     _tally: &mut B::Tally,
 ) -> Result<Option<Reply>, NoMemory>
-    ensures { (m : Machine) → Keeps m _store.old.types (B.rows _store.old.table) pending.old → IfOk result (λ reply.
-        Takes (end_turn _setting m) reply _store.new.types (B.rows _store.new.table) pending.new (B.Tally.number _tally.old) (B.Tally.number _tally.new)) }
+    ensures { (m : Machine) → Keeps m _store.old.types (B.rows _store.old.table) pending.old
+        → IfOk result (λ reply.
+        Takes (end_turn _setting m) reply _store.new.types (B.rows _store.new.table) pending.new
+        (B.Tally.number _tally.old) (B.Tally.number _tally.new)) }
 {
     match *pending {
         Pending::Nothing => Ok(None),
@@ -151,7 +170,8 @@ fn reply_to<B: Sorted>(
 ) -> Result<Option<Reply>, NoMemory>
     requires kept { HasState store.old.types (B.rows store.old.table) }
     ensures { (s : State) → Holds s store.old.types (B.rows store.old.table) → IfOk result (λ reply.
-        Executes (outcome_of setting s (reading store.old.types line.now)) reply store.new.types (B.rows store.new.table) (B.Tally.number tally.old) (B.Tally.number tally.new)) }
+        Executes (outcome_of setting s (reading store.old.types line.now)) reply store.new.types
+        (B.rows store.new.table) (B.Tally.number tally.old) (B.Tally.number tally.new)) }
 {
     match read_line(alloc, &store.types, line) {
         Ok(command) => execute(alloc, setting, command, store, tally),
@@ -172,15 +192,22 @@ pub(crate) fn serve_piece<K: Sink, B: Sorted>(
     tally: &mut B::Tally,
 ) -> Result<(), SinkRefusal>
     requires kept { HasMachine store.old.types (B.rows store.old.table) pending.old }
-    ensures ok { OnOk result ((start : List ℕ) (m : Machine) → held.old.items ≡ cut start → Keeps m store.old.types (B.rows store.old.table) pending.old →
+    ensures ok { OnOk result ((start : List ℕ) (m : Machine) → held.old.items ≡ cut start
+        → Keeps m store.old.types (B.rows store.old.table) pending.old →
         Serves setting m (complete_from start piece.now)
-        (moment store.old.types (B.rows store.old.table) pending.old (B.Tally.number tally.old) (K.written sink.old))
-        (moment store.new.types (B.rows store.new.table) pending.new (B.Tally.number tally.new) (K.written sink.new))) }
-    ensures held { OnOk result ((start : List ℕ) → held.old.items ≡ cut start → held.new.items ≡ cut (partial_from start piece.now)) }
-    ensures err { OnErr result ((start : List ℕ) (m : Machine) → held.old.items ≡ cut start → Keeps m store.old.types (B.rows store.old.table) pending.old →
-        WritesPart (replies setting m (complete_from start piece.now)) (K.written sink.old) (K.written sink.new)) }
+        (moment store.old.types (B.rows store.old.table) pending.old (B.Tally.number tally.old)
+        (K.written sink.old))
+        (moment store.new.types (B.rows store.new.table) pending.new (B.Tally.number tally.new)
+        (K.written sink.new))) }
+    ensures held { OnOk result ((start : List ℕ) → held.old.items ≡ cut start
+        → held.new.items ≡ cut (partial_from start piece.now)) }
+    ensures err { OnErr result ((start : List ℕ) (m : Machine) → held.old.items ≡ cut start
+        → Keeps m store.old.types (B.rows store.old.table) pending.old →
+        WritesPart (replies setting m (complete_from start piece.now)) (K.written sink.old)
+        (K.written sink.new)) }
     ensures kept { OnOk result (HasMachine store.new.types (B.rows store.new.table) pending.new) }
-    ensures cause { IsErrOf result SinkRefusal.Failed → Rose (K.faults sink.old) (K.faults sink.new) }
+    ensures cause { IsErrOf result SinkRefusal.Failed
+        → Rose (K.faults sink.old) (K.faults sink.new) }
     ensures later { K.faults sink.old ≤ K.faults sink.new }
 {
     let mut at = 0;
@@ -209,15 +236,21 @@ fn serve_ended<K: Sink, B: Sorted>(
     tally: &mut B::Tally,
 ) -> Result<(), SinkRefusal>
     requires kept { HasMachine store.old.types (B.rows store.old.table) pending.old }
-    ensures ok { OnOk result ((start : List ℕ) (m : Machine) → held.old.items ≡ cut start → Keeps m store.old.types (B.rows store.old.table) pending.old →
+    ensures ok { OnOk result ((start : List ℕ) (m : Machine) → held.old.items ≡ cut start
+        → Keeps m store.old.types (B.rows store.old.table) pending.old →
         Serves setting m ((start ++ part.now) ∷ [])
-        (moment store.old.types (B.rows store.old.table) pending.old (B.Tally.number tally.old) (K.written sink.old))
-        (moment store.new.types (B.rows store.new.table) pending.new (B.Tally.number tally.new) (K.written sink.new))) }
+        (moment store.old.types (B.rows store.old.table) pending.old (B.Tally.number tally.old)
+        (K.written sink.old))
+        (moment store.new.types (B.rows store.new.table) pending.new (B.Tally.number tally.new)
+        (K.written sink.new))) }
     ensures held { OnOk result (held.new.items ≡ []) }
-    ensures err { OnErr result ((start : List ℕ) (m : Machine) → held.old.items ≡ cut start → Keeps m store.old.types (B.rows store.old.table) pending.old →
-        WritesPart (replies setting m ((start ++ part.now) ∷ [])) (K.written sink.old) (K.written sink.new)) }
+    ensures err { OnErr result ((start : List ℕ) (m : Machine) → held.old.items ≡ cut start
+        → Keeps m store.old.types (B.rows store.old.table) pending.old →
+        WritesPart (replies setting m ((start ++ part.now) ∷ [])) (K.written sink.old)
+        (K.written sink.new)) }
     ensures kept { OnOk result (HasMachine store.new.types (B.rows store.new.table) pending.new) }
-    ensures cause { IsErrOf result SinkRefusal.Failed → Rose (K.faults sink.old) (K.faults sink.new) }
+    ensures cause { IsErrOf result SinkRefusal.Failed
+        → Rose (K.faults sink.old) (K.faults sink.new) }
     ensures later { K.faults sink.old ≤ K.faults sink.new }
 {
     if held.is_empty() {
@@ -236,7 +269,8 @@ fn serve_ended<K: Sink, B: Sorted>(
 
 // Holds a further part of a line, as far as it shows whether the line is too long.
 fn hold(held: &mut Vec<u8>, part: &[u8]) -> Result<(), NoMemory>
-    ensures { OnOk result ((start : List ℕ) → held.old.items ≡ cut start → held.new.items ≡ cut (start ++ part.now)) }
+    ensures { OnOk result ((start : List ℕ) → held.old.items ≡ cut start
+        → held.new.items ≡ cut (start ++ part.now)) }
 {
     let room = HELD_LIMIT.saturating_sub(held.len());
     match held.extend_from_slice(&part[..part.len().min(room)]) {

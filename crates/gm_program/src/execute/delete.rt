@@ -31,7 +31,8 @@ pub(super) fn delete<B: Sorted>(
     requires suits { Suits store.old.types (order.delete number id) }
     ensures { (s : State) → Holds s store.old.types (B.rows store.old.table)
         → IfOk result (λ reply. Executes (delete_step number id s) reply
-        store.new.types (B.rows store.new.table) (B.Tally.number tally.old) (B.Tally.number tally.new)) }
+        store.new.types (B.rows store.new.table) (B.Tally.number tally.old)
+        (B.Tally.number tally.new)) }
 {
     let of = &store.types.as_slice()[usize::from(number)];
     delete_of(alloc, of, id, &mut store.table, tally)

@@ -19,7 +19,8 @@ pub(super) fn describe(
 ) -> Result<Option<Reply>, NoMemory>
     requires { number < length types.now }
     ensures { (s : State) (rows : Rows) (tally : ℕ) → tally < 2 ^ 64 → Holds s types.now rows
-        → IfOk result (λ reply. Executes (describe_step number s) reply types.now rows tally tally) }
+        → IfOk result (λ reply. Executes
+        (describe_step number s) reply types.now rows tally tally) }
 {
     let lines = lines_of(alloc, &types.as_slice()[usize::from(number)])?;
     Ok(Some(Reply::Described(lines)))

@@ -23,7 +23,8 @@ use std::alloc::Global;
 pub(super) fn explain(alloc: Global, ask: &Ask, types: &TypeList) -> Result<Option<Reply>, NoMemory>
     requires { IsQuestion types.now (asked_by ask.now) }
     ensures { (s : State) (rows : Rows) (tally : ℕ) → tally < 2 ^ 64 → Holds s types.now rows
-        → IfOk result (λ reply. Executes (explain_step (asked_by ask.now) s) reply types.now rows tally tally) }
+        → IfOk result (λ reply. Executes
+        (explain_step (asked_by ask.now) s) reply types.now rows tally tally) }
 {
     parts_are_served();
     let of = &types.as_slice()[usize::from(ask.number)];
@@ -47,7 +48,8 @@ fn plan_lines(
     requires few { length parts.now ≤ 8 }
     requires least { 1 ≤ target }
     requires most { target ≤ 10000 }
-    ensures { IfOk result (λ lines. lines ≡ lines_of_plan of.now target 1 (map chosen_of parts.now)) }
+    ensures { IfOk result (λ lines. lines
+        ≡ lines_of_plan of.now target 1 (map chosen_of parts.now)) }
 {
     let mut lines = Vec::new(alloc);
     let mut place = 0;
@@ -70,7 +72,8 @@ fn push_part(
     requires served { IsServed of.now (chosen_of part.now) }
     requires least { 1 ≤ target }
     requires most { target ≤ 10000 }
-    ensures { OnOk result (lines.new.items ≡ lines.old.items ++ part_lines of.now target place (chosen_of part.now)) }
+    ensures { OnOk result (lines.new.items
+        ≡ lines.old.items ++ part_lines of.now target place (chosen_of part.now)) }
 {
     let of_ranges = ranges(alloc, of, part.kind, &part.filter, target)?;
     let runs = of_ranges.ranges.len();

@@ -24,7 +24,8 @@ impl Found {
 
     /// Takes further features. One with an identifier that is there takes the place of the other.
     pub(super) fn take(&mut self, features: FeatureList) -> Result<(), NoMemory>
-        ensures { OnOk result (self.new.values.entries ≡ collected self.old.values.entries features) }
+        ensures { OnOk result (self.new.values.entries
+            ≡ collected self.old.values.entries features) }
     {
         'features: for feature in features.into_vec() {
             let Feature { id, values } = feature;

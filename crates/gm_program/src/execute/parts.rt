@@ -73,8 +73,10 @@ fn read_parts<B: Sorted>(
     requires most { target ≤ 10000 }
     ensures found { (s : State) → IsTypeOf s of.now (B.rows table.now) → IfOk result (λ found.
         Collects s of.now.number (tests_of (map chosen_of parts.now)) found.values.entries) }
-    ensures tally { (s : State) → IsTypeOf s of.now (B.rows table.now) → OnOk result (B.Tally.number tally.new
-        ≡ capped_sum (B.Tally.number tally.old) (rows_examined of.now target (rows_of s) (map chosen_of parts.now))) }
+    ensures tally { (s : State) → IsTypeOf s of.now (B.rows table.now)
+        → OnOk result (B.Tally.number tally.new
+        ≡ capped_sum (B.Tally.number tally.old)
+        (rows_examined of.now target (rows_of s) (map chosen_of parts.now))) }
 {
     let mut found = Found::new(alloc);
     'parts: for part in parts {
@@ -99,8 +101,10 @@ fn read_part<B: Sorted>(
     requires most { target ≤ 10000 }
     ensures found { (s : State) → IsTypeOf s of.now (B.rows table.now)
         → IfOk result (Finds s of.now.number (tree part.now.filter)) }
-    ensures tally { (s : State) → IsTypeOf s of.now (B.rows table.now) → OnOk result (B.Tally.number tally.new
-        ≡ capped_sum (B.Tally.number tally.old) (rows_read of.now target (rows_of s) (chosen_of part.now))) }
+    ensures tally { (s : State) → IsTypeOf s of.now (B.rows table.now)
+        → OnOk result (B.Tally.number tally.new
+        ≡ capped_sum (B.Tally.number tally.old)
+        (rows_read of.now target (rows_of s) (chosen_of part.now))) }
 {
     keys_are_inside();
     keys_inside_are_of_the_index();

@@ -39,7 +39,8 @@ pub(super) fn put<B: Sorted>(
     requires suits { Suits store.old.types (order.put number feature) }
     ensures { (s : State) → Holds s store.old.types (B.rows store.old.table)
         → IfOk result (λ reply. Executes (put_step number feature s) reply
-        store.new.types (B.rows store.new.table) (B.Tally.number tally.old) (B.Tally.number tally.new)) }
+        store.new.types (B.rows store.new.table) (B.Tally.number tally.old)
+        (B.Tally.number tally.new)) }
 {
     let of = &store.types.as_slice()[usize::from(number)];
     put_of(alloc, of, feature, &mut store.table, tally)

@@ -27,7 +27,8 @@ pub(super) fn query<B: Sorted>(
     requires suits { IsQuestion store.now.types (asked_by ask.now) }
     ensures { (s : State) → Holds s store.now.types (B.rows store.now.table)
         → IfOk result (λ reply. Executes (query_step (asked_by ask.now) s) reply
-        store.now.types (B.rows store.now.table) (B.Tally.number tally.old) (B.Tally.number tally.new)) }
+        store.now.types (B.rows store.now.table) (B.Tally.number tally.old)
+        (B.Tally.number tally.new)) }
 {
     parts_are_served();
     parts_find_all();
@@ -54,7 +55,8 @@ pub(super) fn count<B: Sorted>(
     requires suits { IsQuestion store.now.types (asked_by ask.now) }
     ensures { (s : State) → Holds s store.now.types (B.rows store.now.table)
         → IfOk result (λ reply. Executes (count_step (asked_by ask.now) s) reply
-        store.now.types (B.rows store.now.table) (B.Tally.number tally.old) (B.Tally.number tally.new)) }
+        store.now.types (B.rows store.now.table) (B.Tally.number tally.old)
+        (B.Tally.number tally.new)) }
 {
     parts_are_served();
     parts_find_all();
