@@ -35,9 +35,13 @@ pub(crate) fn told(alloc: Global, plan: Plan, scripts: Scripts) -> Result<Vec<u8
 // The scripts run over both kinds of table. What is told of the one is told of the other.
 fn told_once(alloc: Global, plan: Plan, scripts: &[Script]) -> Result<Vec<u8>, NoMemory> {
     let mut over_map = Store::new(alloc, MapTable::new(alloc));
-    let mut told = told_over(alloc, plan, scripts, &mut over_map, &mut Tally::new())?;
     let mut over_blocks = Store::new(alloc, BlockTable::new(alloc));
-    let other = told_over(alloc, plan, scripts, &mut over_blocks, &mut Tally::new())?;
+    let mut tally = Tally::new();
+    let one = told_over(alloc, plan, scripts, &mut over_map, &mut tally);
+    let other = told_over(alloc, plan, scripts, &mut over_blocks, &mut tally);
+    let _rows = tally.close();
+    let mut told = one?;
+    let other = other?;
     if told.as_slice() != other.as_slice() {
         told.extend_from_slice(b"over blocks:\n")?;
         told.extend_from_slice(&other)?;
@@ -85,7 +89,10 @@ fn told_each(
             Failing::Write(call)
         };
         let mut store = Store::new(alloc, MapTable::new(alloc));
-        let ended = run_once(alloc, plan, script, failing, &mut store, &mut Tally::new())?;
+        let mut tally = Tally::new();
+        let ended = run_once(alloc, plan, script, failing, &mut store, &mut tally);
+        let _rows = tally.close();
+        let ended = ended?;
         let lines = ended.written.iter().filter(|byte| **byte == b'\n').count();
         let bytes = ended.written.len();
         let status = ended.status.number();

@@ -129,7 +129,7 @@ fn removal(alloc: Global, key: &[u8]) -> Result<Batch, NoMemory>
 }
 
 // A table without rows gets a=1, ab=12, b=two, after a row c that was taken out and an older b.
-fn filled<B: Sorted>(alloc: Global, table: B) -> Result<B, NoMemory> {
+fn filled<B: Sorted + Drop>(alloc: Global, table: B) -> Result<B, NoMemory> {
     let mut table = table;
     let puts: [(&[u8], &[u8]); 5] = [
         (b"b", b"2"),
