@@ -145,7 +145,7 @@ fn filled<B: Sorted + Drop>(alloc: Global, table: B) -> Result<B, NoMemory> {
     Ok(table)
 }
 
-fn map(alloc: Global) -> Result<MapTable, NoMemory> {
+fn whole_map(alloc: Global) -> Result<MapTable, NoMemory> {
     filled(alloc, MapTable::new(alloc))
 }
 
@@ -153,8 +153,10 @@ fn blocks(alloc: Global) -> Result<BlockTable, NoMemory> {
     filled(alloc, BlockTable::new(alloc))
 }
 
-fn plain(alloc: Global) -> Result<Plain, NoMemory> {
-    Ok(Plain { inner: map(alloc)? })
+fn plain_map(alloc: Global) -> Result<Plain, NoMemory> {
+    Ok(Plain {
+        inner: whole_map(alloc)?,
+    })
 }
 
 // What the map tells, and whether the other tables tell the same.
@@ -165,8 +167,8 @@ fn agreed(alloc: Global, one: &str, others: [&str; 2]) -> Result<String, NoMemor
 
 // What stands at a key, and how many rows were counted.
 fn find(alloc: Global, key: &str) -> Result<String, NoMemory> {
-    let one = at_key(alloc, &map(alloc)?, key)?;
-    let other = at_key(alloc, &plain(alloc)?, key)?;
+    let one = at_key(alloc, &whole_map(alloc)?, key)?;
+    let other = at_key(alloc, &plain_map(alloc)?, key)?;
     let third = at_key(alloc, &blocks(alloc)?, key)?;
     agreed(alloc, one.as_str(), [other.as_str(), third.as_str()])
 }
@@ -190,8 +192,8 @@ fn at_key<B: Sorted<Tally = Tally>>(
 // The rows between two keys.
 fn scan(alloc: Global, ends: &str) -> Result<String, NoMemory> {
     let (low, high) = ends_of(ends);
-    let one = scanned(alloc, &map(alloc)?, low, high)?;
-    let other = scanned(alloc, &plain(alloc)?, low, high)?;
+    let one = scanned(alloc, &whole_map(alloc)?, low, high)?;
+    let other = scanned(alloc, &plain_map(alloc)?, low, high)?;
     let third = scanned(alloc, &blocks(alloc)?, low, high)?;
     agreed(alloc, one.as_str(), [other.as_str(), third.as_str()])
 }
@@ -241,8 +243,8 @@ fn scan_spans(alloc: Global, case: &str) -> Result<String, NoMemory> {
         let (low, high) = ends_of(span);
         list.push(&[low.as_bytes()], &[high.as_bytes()])?;
     }
-    let one = spanned(alloc, &map(alloc)?, &list, room)?;
-    let other = spanned(alloc, &plain(alloc)?, &list, room)?;
+    let one = spanned(alloc, &whole_map(alloc)?, &list, room)?;
+    let other = spanned(alloc, &plain_map(alloc)?, &list, room)?;
     let third = spanned(alloc, &blocks(alloc)?, &list, room)?;
     agreed(alloc, one.as_str(), [other.as_str(), third.as_str()])
 }
