@@ -1,6 +1,6 @@
 // Cases of tables.
-ghost use Rattle.std.specs.Prelude.{◌≡◌, IfOk, IsTrue, ◌++◌, map};
-ghost use Rattle.gm_table.specs.Batch.{are_distinct, has_key};
+ghost use Rattle.std.specs.Prelude.{IfOk, IsTrue, ◌++◌, map};
+ghost use Rattle.gm_table.specs.Batch.{are_distinct};
 ghost use Rattle.gm_table.specs.Row.{key_of};
 
 use crate::words;
@@ -262,7 +262,7 @@ fn spanned<B: Sorted<Tally = Tally>>(
 }
 
 // So many rows, put in by as many batches, over the map and over blocks, and how many blocks are left
-// where one batch takes all out.
+// where all are taken out again.
 fn rows(alloc: Global, count: u64) -> Result<String, NoMemory> {
     let mut over_map = MapTable::new(alloc);
     let one = replayed(alloc, &mut over_map, count)?;
@@ -301,38 +301,12 @@ fn replayed<B: Sorted<Tally = Tally>>(
     )?)
 }
 
-// Takes the rows with these keys out by one batch.
+// Takes the rows with these keys out, one after the other.
 fn take_all_out<B: Sorted>(alloc: Global, table: &mut B, count: u64) -> Result<(), NoMemory> {
-    let mut keys = Vec::new(alloc);
     for i in 0..count {
-        keys.push(Bytes::from_slice(alloc, &i.to_be_bytes())?)?;
+        table.apply(alloc, &removal(alloc, &i.to_be_bytes())?)?;
     }
-    if !are_apart(&keys) {
-        return Ok(());
-    }
-    table.apply(
-        alloc,
-        &Batch {
-            removes: Items::from_vec(keys),
-            puts: Items::new(alloc),
-        },
-    )
-}
-
-// Whether no two of the keys are the same.
-fn are_apart(keys: &[Bytes]) -> bool
-    ensures { result ≡ are_distinct keys.now }
-{
-    match keys {
-        [] => true,
-        [key, later @ ..] => !has(later, key) && are_apart(later),
-    }
-}
-
-fn has(keys: &[Bytes], key: &Bytes) -> bool
-    ensures { result ≡ has_key key.now keys.now }
-{
-    keys.iter().any(|other| key == other)
+    Ok(())
 }
 
 // The rows of spans of so many rows, each so many rows behind the one before.
