@@ -8,20 +8,21 @@ scratch=$(mktemp -d)
 trap 'rm -rf "$scratch"' EXIT
 cc -shared -fPIC -O1 -o "$scratch/fail.so" checks/fail_allocation.c -ldl || exit 1
 program=crates/gm/out/gm
-script=examples/first.gm
-size=$(wc -c <examples/first.out)
+script=checks/short.gm
+replies=checks/short.out
+size=$(wc -c <$replies)
 
 # run N: the run whose allocation number N fails; its status is in the variable of that name
 run() {
     FAIL_ALLOCATION=$1 LD_PRELOAD=$scratch/fail.so $program <$script >"$scratch/replies" 2>/dev/null
     status=$?
     wrote=$(wc -c <"$scratch/replies")
-    cmp -s -n "$wrote" "$scratch/replies" examples/first.out && [ "$wrote" -le "$size" ]
+    cmp -s -n "$wrote" "$scratch/replies" $replies && [ "$wrote" -le "$size" ]
 }
 
 at=1
 refused=0
-while [ "$at" -le 1000 ]; do
+while [ "$at" -le 10000 ]; do
     if ! run "$at"; then
         echo "allocation $at: wrote what is no front of the replies"
         exit 1

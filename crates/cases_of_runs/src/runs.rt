@@ -179,6 +179,7 @@ fn run_in_pieces<B: Sorted + Sync>(
     store: &mut Store<B>,
     tally: &mut B::Tally,
 ) -> Result<Ended, NoMemory>
+    requires piece { 0 < piece }
     requires kept { HasState store.old.types (B.rows store.old.table) }
     ensures kept { IfOk result (λ ended. ended.status ≡ Status.Done
         → HasState store.new.types (B.rows store.new.table)) }
