@@ -1,7 +1,8 @@
 // Cases of the meaning of filters.
 use crate::bounds;
 use crate::held::{Held, filter};
-use crate::words::{Halt, push, split, told};
+use crate::words::{Halt, push, split, text, told};
+use gm_ecql::print;
 use gm_feature::{Feature, fits};
 use gm_filter::{Filter, holds, like, suits};
 use gm_types::FeatureType;
@@ -22,6 +23,7 @@ fn of_held(alloc: Global, held: &Held, word: &str, rest: &str) -> Result<String,
         "holds" => holds_of(alloc, of, held.feature()?, &filter(alloc, of, rest)?),
         "ranges" => bounds::ranges_of(alloc, of, rest),
         "hint" => bounds::hinted(alloc, of, rest),
+        "print" => printed(alloc, of, &filter(alloc, of, rest)?),
         _ => bounds::answer(alloc, of, word, &filter(alloc, of, rest)?),
     }
 }
@@ -37,6 +39,11 @@ fn holds_of(
     } else {
         Err(Halt::Form)
     }
+}
+
+// The canonical text.
+fn printed(alloc: Global, of: &FeatureType, filter: &Filter) -> Result<String, Halt> {
+    text(alloc, print(alloc, of, filter)?.as_str())
 }
 
 // Whether the text behind the bar is like the pattern before it.
