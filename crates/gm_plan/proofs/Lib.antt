@@ -19,6 +19,7 @@ pub mod InPlane
 pub mod InSpace
 pub mod Members
 pub mod PlaneReads
+pub mod Raising
 pub mod Rising
 pub mod Rooms
 pub mod Signed

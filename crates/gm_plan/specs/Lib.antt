@@ -6,5 +6,6 @@ pub mod Known
 pub mod Laws
 pub mod Lines
 pub mod Merged
+pub mod Raised
 pub mod Spans
 pub mod Windows

@@ -1,8 +1,10 @@
 // Ranges as spans of keys.
-ghost use Rattle.std.specs.Prelude.{◌≡◌, ◌++◌, ◌∷◌, [], IfOk, OnOk};
+ghost use Rattle.std.specs.Prelude.{◌≡◌, ◌≤◌, ◌++◌, ◌∷◌, [], length, true, false, IfOk, OnOk};
 ghost use Rattle.byteorder.specs.Endian.{big_bytes};
 ghost use Rattle.gm_keys.specs.Key as key;
+ghost use Rattle.gm_lexi.specs.After.{after_of};
 ghost use Rattle.gm_plan.specs.Spans as spec;
+ghost use Rattle.gm_plan.specs.Raised.{up_to};
 
 use byteorder::{BigEndian, ByteOrder};
 use gm_base::{Bytes, NoMemory};
@@ -74,6 +76,7 @@ fn push_span(
     }
 }
 
+#[tactic(auto, unfolding(gm_keys::specs::Key::code_front))]
 fn push_codes(
     alloc: Global,
     spans: &mut ByteRangeList,
@@ -85,11 +88,15 @@ fn push_codes(
     ensures { OnOk result (spans.new ≡ spans.old ++ spec.from_to
         (key.code_front prefix.now shard low) (key.code_front prefix.now shard high) ∷ []) }
 {
+    if push_behind(spans, prefix, &[shard], &[], low, high)? {
+        return Ok(());
+    }
     let low = code_front(alloc, prefix, shard, low)?;
     let high = code_front(alloc, prefix, shard, high)?;
     push_from_to(alloc, spans, low.as_slice(), high.as_slice())
 }
 
+#[tactic(auto, unfolding(gm_keys::specs::Key::bin_code_front))]
 fn push_in_bin(
     alloc: Global,
     spans: &mut ByteRangeList,
@@ -103,9 +110,70 @@ fn push_in_bin(
         (key.bin_code_front prefix.now shard number low)
         (key.bin_code_front prefix.now shard number high) ∷ []) }
 {
+    if push_behind(spans, prefix, &[shard], &number_bytes(number), low, high)? {
+        return Ok(());
+    }
     let low = bin_code_front(alloc, prefix, shard, number, low)?;
     let high = bin_code_front(alloc, prefix, shard, number, high)?;
     push_from_to(alloc, spans, low.as_slice(), high.as_slice())
+}
+
+// Adds the span of codes behind these parts without a front of its own, and answers whether it did:
+// not where the high code has bytes 0xFF alone, since then the parts before it are raised.
+fn push_behind(
+    spans: &mut ByteRangeList,
+    first: &[u8],
+    second: &[u8],
+    third: &[u8],
+    low: u64,
+    high: u64,
+) -> Result<bool, NoMemory>
+    ensures pushed { IfOk result (λ pushed. pushed ≡ true → spans.new ≡ spans.old
+        ++ spec.from_to (first.now ++ (second.now ++ (third.now ++ big_bytes 8 low)))
+        (first.now ++ (second.now ++ (third.now ++ big_bytes 8 high))) ∷ []) }
+    ensures not { IfOk result (λ pushed. pushed ≡ false → spans.new ≡ spans.old) }
+{
+    let least = code_bytes(low);
+    let mut end = code_bytes(high);
+    let count = raise(&mut end);
+    if count == 0 {
+        return Ok(false);
+    }
+    push_parts(spans, first, second, third, &least, &end[..count])?;
+    Ok(true)
+}
+
+// Adds the span of two ends that have these parts in front.
+fn push_parts(
+    spans: &mut ByteRangeList,
+    first: &[u8],
+    second: &[u8],
+    third: &[u8],
+    low: &[u8],
+    high: &[u8],
+) -> Result<(), NoMemory>
+    ensures { OnOk result (spans.new ≡ spans.old
+        ++ (
+          first.now ++ (second.now ++ (third.now ++ low.now)),
+          first.now ++ (second.now ++ (third.now ++ high.now)),
+        ) ∷ []) }
+{
+    spans.push(&[first, second, third, low], &[first, second, third, high])
+}
+
+// Raises the last byte that is not 0xFF by one, and answers how many bytes stand up to it.
+fn raise(bytes: &mut [u8]) -> usize
+    ensures bound { result ≤ length bytes.new }
+    ensures end { after_of bytes.old ≡ up_to result bytes.new }
+{
+    let mut end = bytes.len();
+    while end > 0 && bytes[end - 1] == 0xFF {
+        end -= 1;
+    }
+    if end > 0 {
+        bytes[end - 1] += 1;
+    }
+    end
 }
 
 fn push_bins(
@@ -230,15 +298,27 @@ fn bin_code_front(
 fn put_number(front: &mut Bytes, number: u16) -> Result<(), NoMemory>
     ensures { OnOk result (front.new ≡ front.old ++ big_bytes 2 number) }
 {
+    front.append(&number_bytes(number))
+}
+
+fn number_bytes(number: u16) -> [u8; 2]
+    ensures { result ≡ big_bytes 2 number }
+{
     let mut two = [0u8; 2];
     BigEndian::write_u16(&mut two, number);
-    front.append(&two)
+    two
 }
 
 fn put_code(front: &mut Bytes, code: u64) -> Result<(), NoMemory>
     ensures { OnOk result (front.new ≡ front.old ++ big_bytes 8 code) }
 {
+    front.append(&code_bytes(code))
+}
+
+fn code_bytes(code: u64) -> [u8; 8]
+    ensures { result ≡ big_bytes 8 code }
+{
     let mut eight = [0u8; 8];
     BigEndian::write_u64(&mut eight, code);
-    front.append(&eight)
+    eight
 }
