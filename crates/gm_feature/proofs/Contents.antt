@@ -37,7 +37,7 @@ fits_64 : (z : ℤ) → is_below (2 ^ 63) z ≡ true → FitsSigned w64 z
 fits_64 (pos n) below = grind (arith, common_steps)
 fits_64 (negsuc n) below = grind (arith, common_steps)
 
-instant_fits : (at : ℤ) → is_instant at ≡ true → FitsSigned w64 at
+pub instant_fits : (at : ℤ) → is_instant at ≡ true → FitsSigned w64 at
 instant_fits (pos n) is = grind (arith, common_steps)
 instant_fits (negsuc n) is = grind (arith, common_steps)
 

@@ -47,10 +47,10 @@ from_place [] i a within = absurd (omega arith)
 from_place (b ∷ attributes) zero a within = refl
 from_place (b ∷ attributes) (suc i) a within = from_place attributes i a (omega arith)
 
-placed : (attributes : List Attribute) (i : ℕ) (a : Attribute) → i < length attributes → a ≡ get_or attributes i a → drop i (kinds attributes) ≡ a.kind ∷ drop (suc i) (kinds attributes)
+pub placed : (attributes : List Attribute) (i : ℕ) (a : Attribute) → i < length attributes → a ≡ get_or attributes i a → drop i (kinds attributes) ≡ a.kind ∷ drop (suc i) (kinds attributes)
 placed attributes i a within is = from_place attributes i a within ∙ ap (λ (b : Attribute). b.kind ∷ drop (suc i) (kinds attributes)) (sym is)
 
-past_end : (attributes : List Attribute) (i : ℕ) → length attributes ≤ i → drop i (kinds attributes) ≡ []
+pub past_end : (attributes : List Attribute) (i : ℕ) → length attributes ≤ i → drop i (kinds attributes) ≡ []
 past_end [] zero past = refl
 past_end [] (suc i) past = refl
 past_end (b ∷ attributes) zero past = absurd (omega arith)

@@ -123,7 +123,7 @@ each_line_placed (points ∷ lines) within few =
     let sum = length-append points (joined lines) in
     (placed points parts.0 (omega arith), each_line_placed lines parts.1 (omega arith))
 
-joined-append : (xs ys : List (List Point)) → joined (xs ++ ys) ≡ joined xs ++ joined ys
+pub joined-append : (xs ys : List (List Point)) → joined (xs ++ ys) ≡ joined xs ++ joined ys
 joined-append [] ys = refl
 joined-append (x ∷ xs) ys = ap (λ (rest : List Point). x ++ rest) (joined-append xs ys) ∙ sym (append_assoc x (joined xs) (joined ys))
 

@@ -3,3 +3,4 @@ pub mod Value
 pub mod Feature
 pub mod Spelling
 pub mod Reading
+pub mod Stored

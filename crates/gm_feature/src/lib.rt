@@ -3,12 +3,16 @@
 
 mod feature;
 mod fit;
+mod fronts;
 mod halt;
 mod laws;
 mod lists;
 mod number;
 mod reader;
 mod shape;
+mod skips;
+mod spans;
+mod stored;
 mod value;
 mod writer;
 
@@ -20,5 +24,6 @@ pub use laws::{
 };
 pub use reader::from_bytes;
 pub use shape::{copy_geometry, has_shape};
+pub use stored::{Stored, StoredGeometry, StoredValue};
 pub use value::{Value, Values};
 pub use writer::to_bytes;

@@ -10,9 +10,9 @@ use gm_types::GeoKind;
 use std::alloc::Global;
 
 /// The least numbers of bytes of a point and of a list.
-const POINT_BYTES: u8 = 8;
+pub const POINT_BYTES: u8 = 8;
 
-const LIST_BYTES: u8 = 4;
+pub const LIST_BYTES: u8 = 4;
 
 /// A geometry that is kept, and that an attribute of the kind may hold.
 #[tactic(auto, unfolding(crate::specs::Reading::geometry_from))]
