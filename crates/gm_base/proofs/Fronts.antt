@@ -101,3 +101,4 @@ IsFront-append number xs ys enough is = record {
 -- numbers of first bytes in order
 pub order-of_fronts : (m n : ℕ) (xs ys : List ℕ) → IsFront m xs → IsFront n ys → m < n → slice_cmp nat_cmp xs ys ≡ Less
 order-of_fronts m n xs ys one other below = front-less 16 0 xs ys one.are_bytes other.are_bytes (omega (arith, below, one.front, other.front))
+

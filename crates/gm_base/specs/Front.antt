@@ -30,3 +30,9 @@ digits_room (suc n) = digits_room n * 256
 pub record IsFront (number : ℕ) (bytes : List ℕ) : Type 0 where
   pub front : number ≡ front_after 0 16 bytes
   pub are_bytes : AreBytes 16 bytes
+
+-- the number of the first four bytes, and the bytes behind these
+pub record IsNumberOfFour (number : ℕ) (bytes rest : List ℕ) : Type 0 where
+  pub number_is : number ≡ front_after 0 4 bytes
+  pub are_bytes : AreBytes 4 bytes
+  pub others : rest ≡ rest_of (rest_of (rest_of (rest_of bytes)))

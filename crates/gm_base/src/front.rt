@@ -2,7 +2,7 @@
 ghost use Rattle.std.specs.Prelude.{◌≡◌, ◌<◌, ℕ, List};
 ghost use Rattle.std.specs.Ordering.{nat_cmp};
 ghost use Rattle.std.specs.Cmp.Lexicographic.{slice_cmp};
-ghost use Rattle.gm_base.specs.Front.{first_of, rest_of, IsFront};
+ghost use Rattle.gm_base.specs.Front.{first_of, rest_of, IsFront, IsNumberOfFour};
 
 use std::cmp::Ordering;
 
@@ -11,14 +11,34 @@ use std::cmp::Ordering;
 pub fn first_bytes(bytes: &[u8]) -> u128
     ensures { IsFront result bytes.now }
 {
-    let mut front = 0u128;
-    let mut rest = bytes;
-    'digits: for _ in 0..16u32 {
-        let (byte, others) = take_byte(rest);
-        front = front * 256 + u128::from(byte);
-        rest = others;
+    let (a, rest) = first_four(bytes);
+    let (b, rest) = first_four(rest);
+    let (c, rest) = first_four(rest);
+    let (d, _) = first_four(rest);
+    let high = u64::from(a) * 4_294_967_296 + u64::from(b);
+    let low = u64::from(c) * 4_294_967_296 + u64::from(d);
+    u128::from(high) * 18_446_744_073_709_551_616 + u128::from(low)
+}
+
+// The number of the first four bytes, with 0 for those that lack, and the others.
+fn first_four(bytes: &[u8]) -> (u32, &[u8])
+    ensures { IsNumberOfFour result.0 bytes.now result.1.now }
+{
+    match bytes {
+        [a, b, c, d, rest @ ..] => (u32::from_be_bytes([*a, *b, *c, *d]), rest),
+        _ => first_few(bytes),
     }
-    front
+}
+
+// The same, byte by byte.
+fn first_few(bytes: &[u8]) -> (u32, &[u8])
+    ensures { IsNumberOfFour result.0 bytes.now result.1.now }
+{
+    let (a, rest) = take_byte(bytes);
+    let (b, rest) = take_byte(rest);
+    let (c, rest) = take_byte(rest);
+    let (d, rest) = take_byte(rest);
+    (u32::from_be_bytes([a, b, c, d]), rest)
 }
 
 // The first byte, or 0, and the others.

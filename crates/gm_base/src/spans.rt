@@ -2,7 +2,8 @@
 ghost use Rattle.std.specs.Prelude.{◌≡◌, ◌<◌, ◌≤◌, ◌++◌, ◌∷◌, ◌↔◌, [], length, take, slice_range, slice_index_or, IsTrue, IfOk, OnOk, OnErr};
 ghost use Rattle.gm_base.specs.Spans.{Span, joined, AreEnds, spans_from, start_at};
 
-use crate::NoMemory;
+use crate::prefix::append_first;
+use crate::{NoMemory, Prefix};
 use std::alloc::Global;
 use std::marker::Model;
 
@@ -81,6 +82,35 @@ impl SpanList {
         Ok(())
     }
 
+    /// Appends a span whose ends have the same bytes in front: of these, the low end is followed by
+    /// the one array and the high end by the first bytes of the other.
+    pub fn push_behind<const N: usize>(
+        &mut self,
+        prefix: &Prefix,
+        low: &[u8; N],
+        high: &[u8; N],
+        count: usize,
+    ) -> Result<(), NoMemory>
+        requires { count ≤ N }
+        ensures ok { OnOk result (self.new ≡ self.old
+            ++ (prefix.now ++ low.now, prefix.now ++ take count high.now) ∷ []) }
+        ensures err { OnErr result (self.new ≡ self.old) }
+    {
+        let length = self.bytes.len();
+        if let Err(error) = push_prefixed(
+            &mut self.bytes,
+            &mut self.ends,
+            prefix,
+            low,
+            high,
+            count,
+        ) {
+            self.bytes.truncate(length);
+            return Err(error);
+        }
+        Ok(())
+    }
+
     /// The low and the high end of a span. No memory.
     pub fn get(&self, i: usize) -> (&[u8], &[u8])
         requires { i < length self.now }
@@ -123,6 +153,65 @@ fn push_span(
         high: bytes.len(),
     })?;
     Ok(())
+}
+
+// Appends the bytes of a span whose ends have the same bytes in front, and where its ends stop. Where
+// there is no memory, further bytes may stay in the buffer.
+fn push_prefixed<const N: usize>(
+    bytes: &mut Vec<u8>,
+    ends: &mut Vec<Ends>,
+    prefix: &Prefix,
+    low: &[u8; N],
+    high: &[u8; N],
+    count: usize,
+) -> Result<(), NoMemory>
+    requires count { count ≤ N }
+    requires ends { AreEnds 0 ends.old.items (length bytes.old.items) }
+    ensures ends { OnOk result (AreEnds 0 ends.new.items (length bytes.new.items)) }
+    ensures spans { OnOk result (spans_from 0 ends.new.items bytes.new.items
+        ≡ spans_from 0 ends.old.items bytes.old.items
+        ++ (prefix.now ++ low.now, prefix.now ++ take count high.now) ∷ []) }
+    ensures err { OnErr result (ends.new.items ≡ ends.old.items) }
+    ensures front { take (length bytes.old.items) bytes.new.items ≡ bytes.old.items }
+{
+    append_whole(bytes, prefix, low)?;
+    let middle = bytes.len();
+    append_prefixed(bytes, prefix, high, count)?;
+    ends.push(Ends {
+        low: middle,
+        high: bytes.len(),
+    })?;
+    Ok(())
+}
+
+// Appends a prefix and an array. Where there is no memory, the prefix may stay.
+fn append_whole<const N: usize>(
+    bytes: &mut Vec<u8>,
+    prefix: &Prefix,
+    tail: &[u8; N],
+) -> Result<(), NoMemory>
+    ensures ok { OnOk result (bytes.new.items ≡ bytes.old.items ++ (prefix.now ++ tail.now)) }
+    ensures front { take (length bytes.old.items) bytes.new.items ≡ bytes.old.items }
+{
+    prefix.append_to(bytes)?;
+    bytes.extend_from_slice(tail)?;
+    Ok(())
+}
+
+// Appends a prefix and the first bytes of an array. Where there is no memory, the prefix may stay.
+fn append_prefixed<const N: usize>(
+    bytes: &mut Vec<u8>,
+    prefix: &Prefix,
+    tail: &[u8; N],
+    count: usize,
+) -> Result<(), NoMemory>
+    requires { count ≤ N }
+    ensures ok { OnOk result (bytes.new.items
+        ≡ bytes.old.items ++ (prefix.now ++ take count tail.now)) }
+    ensures front { take (length bytes.old.items) bytes.new.items ≡ bytes.old.items }
+{
+    prefix.append_to(bytes)?;
+    append_first(bytes, tail, count)
 }
 
 // Appends the parts, one after the other. Where there is no memory, some of them may stay.
