@@ -16,5 +16,5 @@ pub use bin::{Bin, bin_of, bin_span, bins_follow_time};
 pub use instant::{FIRST_MS, Instant, LAST_MS};
 pub use laws::{instants_are_spelled, instants_are_tested};
 pub use period::{Period, last_bin, span_of};
-pub use printer::{print_instant, printed_instants_are_read};
+pub use printer::{append_instant, print_instant, printed_instants_are_read};
 pub use reader::read_instant;

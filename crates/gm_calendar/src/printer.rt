@@ -1,5 +1,5 @@
 // Instants printed as text.
-ghost use Rattle.std.specs.Prelude.{◌≡◌, ◌+◌, ◌*◌, ◌<◌, [], ◌∷◌, ◌++◌, take, ℤ, true, Some, IfOk};
+ghost use Rattle.std.specs.Prelude.{◌≡◌, ◌+◌, ◌*◌, ◌<◌, [], ◌∷◌, ◌++◌, take, ℤ, true, Some, IfOk, OnOk};
 ghost use Rattle.std.specs.List.{list_all};
 ghost use Rattle.std.specs.String.{string_bytes};
 ghost use Rattle.gm_calendar.specs.Calendar.{days_of_year, span_at};
@@ -18,13 +18,23 @@ pub fn print_instant(alloc: Global, at: Instant) -> Result<Text, NoMemory>
     ensures text { IfOk result (λ text. text ≡ instant_text at) }
     ensures reads_back { IfOk result (λ text. instant_of text ≡ Some at) }
 {
-    let since = ms_from_0000(at);
+    printed_instants_are_read();
+    let _ms = at.ms();
     let mut text = String::with_capacity(alloc, 24)?;
-    append_day(&mut text, since / DAY_MS)?;
-    text.push('T')?;
-    append_time(&mut text, since % DAY_MS)?;
-    text.push('Z')?;
+    append_instant(&mut text, at)?;
     Ok(Text::from_string(text))
+}
+
+/// Appends the text that `print_instant` gives. Where memory runs out, part of it may be there.
+pub fn append_instant(text: &mut String, at: Instant) -> Result<(), NoMemory>
+    ensures { OnOk result (string_bytes text.new ≡ string_bytes text.old ++ instant_text at) }
+{
+    let since = ms_from_0000(at);
+    append_day(text, since / DAY_MS)?;
+    text.push('T')?;
+    append_time(text, since % DAY_MS)?;
+    text.push('Z')?;
+    Ok(())
 }
 
 // The milliseconds since 0000-01-01T00:00:00Z.
