@@ -1,8 +1,10 @@
 -- What is printed of a geometry that is kept spells it.
-use Rattle.std.proofs.Common.{◌≡◌, ℕ, ◌<◌, Bool, true, false, ◌&&◌, ◌||◌, not, ℤ, pos, negsuc, List, [], ◌∷◌, ◌++◌, Some, None, Ok, inr, refl, sym, ap, ◌∙◌, arith, ltb-true, leb-true, lit<, if◌then◌else◌, ◌^◌}
-use Rattle.std.proofs.lemmas.Bool.{and_parts, or_parts}
+use Rattle.std.proofs.Common.{◌≡◌, ℕ, ◌<◌, Bool, true, false, ◌&&◌, ◌||◌, not, ℤ, pos, negsuc, List, [], ◌∷◌, ◌++◌, Some, None, Ok, inr, refl, sym, ap, ◌∙◌, arith, ltb-true, leb-true, lit<, if◌then◌else◌, ◌^◌, eqb}
+use Rattle.std.proofs.lemmas.Bool.{and_parts, and_from, or_parts}
 use Rattle.std.specs.List.{list_all, list_any, AllByRecursion}
+use Rattle.std.specs.Char.{is_ascii_uppercase}
 use Rattle.std.proofs.lemmas.List.Concat.{flat_map-append}
+use Rattle.std.proofs.lemmas.List.Folds.{list_all-append}
 use Rattle.gm_geom.specs.declared.place.Point.{Point}
 use Rattle.gm_geom.specs.declared.geometry.Geometry.{Geometry}
 use Rattle.gm_geom.specs.declared.geometry.Geometry.TheVariants as geo
@@ -11,7 +13,7 @@ use Rattle.gm_geom.specs.Number.{fixed_of, fixed_text, is_number_byte}
 use Rattle.gm_geom.specs.Geometry.{joined, points_of, lines_of}
 use Rattle.gm_geom.specs.Validity.{is_within, is_in_world, is_empty, is_hollow, has_empty_list, has_one_point, fault_of}
 use Rattle.gm_wkt.specs.Grammar.{AreBlanks, coordinate_from, SpellsNumber, SpellsPosition, SpellsMembers, SpellsList, SpellsLine, SpellsRings, SpellsLone, SpellsLoose, SpellsBody, SpellsText, keyword_text, keyword_of}
-use Rattle.gm_wkt.specs.Printing.{position_text, members_text, list_text, line_text, rings_text, lone_text, body_text, printed, FitsPoint}
+use Rattle.gm_wkt.specs.Printing.{position_text, members_text, list_text, line_text, rings_text, lone_text, body_text, printed, FitsPoint, is_point_byte}
 use mir.Syntax.{w32}
 use mir.Val.{SFits}
 
@@ -154,3 +156,25 @@ printed_spells numbers g kept =
       spells = body_spells numbers g some.0 parts.0;
       written = refl;
     }
+
+-- bytes of numbers are bytes of points
+number_is_plain : (bytes : List ℕ) → list_all is_number_byte bytes ≡ true → list_all is_point_byte bytes ≡ true
+number_is_plain [] e = refl
+number_is_plain (b ∷ bytes) e =
+    let each = and_parts (is_number_byte b) (list_all is_number_byte bytes) e in
+    and_from (is_point_byte b) (list_all is_point_byte bytes) (ap (λ n. n || (is_ascii_uppercase b || (eqb b 40 || (eqb b 41 || eqb b 32)))) each.0) (number_is_plain bytes each.1)
+
+joined_plain : (a b : List ℕ) → list_all is_point_byte a ≡ true → list_all is_point_byte b ≡ true → list_all is_point_byte (a ++ b) ≡ true
+joined_plain a b first second = list_all-append is_point_byte a b ∙ and_from (list_all is_point_byte a) (list_all is_point_byte b) first second
+
+position_plain : ((z : ℤ) → SFits w32 z → list_all is_number_byte (fixed_text z) ≡ true) → (p : Point) → FitsPoint p → list_all is_point_byte (position_text p) ≡ true
+position_plain bytes p fits =
+    joined_plain (fixed_text p.x) (32 ∷ fixed_text p.y) (number_is_plain (fixed_text p.x) (bytes p.x fits.x)) (number_is_plain (fixed_text p.y) (bytes p.y fits.y))
+
+in_world : (g : Geometry) → fault_of g ≡ None → list_all is_in_world (points_of g) ≡ true
+in_world g kept = (no_fault _ _ _ _ kept).0
+
+pub point_plain : ((z : ℤ) → SFits w32 z → list_all is_number_byte (fixed_text z) ≡ true) → (p : Point) → fault_of (geo.Point p) ≡ None → list_all is_point_byte (printed (geo.Point p)) ≡ true
+point_plain bytes p kept =
+    let fits = (points_fit (p ∷ []) (in_world (geo.Point p) kept)).0 in
+    joined_plain (position_text p ++ []) (41 ∷ []) (joined_plain (position_text p) [] (position_plain bytes p fits) refl) refl

@@ -1,11 +1,12 @@
 -- The printed form: one blank behind the keyword and behind each comma, and between the two numbers
 -- of a point, and none elsewhere.
-use Rattle.std.specs.Prelude.{ℕ, Bool, true, false, List, [], ◌∷◌, ◌++◌, FitsSigned}
+use Rattle.std.specs.Prelude.{◌==◌, ◌||◌, ℕ, Bool, true, false, List, [], ◌∷◌, ◌++◌, FitsSigned}
+use Rattle.std.specs.Char.{is_ascii_uppercase}
 use Rattle.std.specs.Int.{w32}
 use Rattle.gm_geom.specs.declared.place.Point.{Point}
 use Rattle.gm_geom.specs.declared.geometry.Geometry.{Geometry}
 use Rattle.gm_geom.specs.declared.geometry.Geometry.TheVariants as geo
-use Rattle.gm_geom.specs.Number.{fixed_text}
+use Rattle.gm_geom.specs.Number.{fixed_text, is_number_byte}
 use Rattle.gm_wkt.specs.Grammar.{space, comma, opening, closing, keyword_text, keyword_of}
 
 abbrev pub position_text : Point → List ℕ
@@ -48,3 +49,9 @@ printed g = keyword_text (keyword_of g) ++ (space ∷ body_text g)
 pub record FitsPoint (p : Point) : Type 0 where
   pub x : FitsSigned w32 p.x
   pub y : FitsSigned w32 p.y
+
+-- a byte that stands in printed points: one of a number, a capital letter, a bracket or a blank
+abbrev pub is_point_byte : ℕ → Bool
+is_point_byte byte =
+    is_number_byte byte
+    || (is_ascii_uppercase byte || (byte == opening || (byte == closing || byte == space)))

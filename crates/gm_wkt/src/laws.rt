@@ -1,11 +1,13 @@
 // Laws of the definitions, for the crates above.
-ghost use Rattle.std.specs.Prelude.{◌≡◌, ◌↔◌, ◌<◌, ◌==◌, List, ℕ, length, false, None, Some, Ok};
-ghost use Rattle.std.specs.List.{list_any};
+ghost use Rattle.std.specs.Prelude.{◌≡◌, ◌↔◌, ◌<◌, ◌==◌, List, ℕ, length, true, false, None, Some, Ok};
+ghost use Rattle.std.specs.List.{list_all, list_any};
 ghost use Rattle.gm_geom.specs.declared.geometry.Geometry.{Geometry};
+ghost use Rattle.gm_geom.specs.declared.geometry.Geometry.TheVariants as geo;
+ghost use Rattle.gm_geom.specs.declared.place.Point.{Point};
 ghost use Rattle.gm_geom.specs.Validity.{fault_of};
 ghost use Rattle.gm_wkt.specs.Answer.{answer_of};
 ghost use Rattle.gm_wkt.specs.Grammar.{SpellsText, line_feed};
-ghost use Rattle.gm_wkt.specs.Printing.{printed};
+ghost use Rattle.gm_wkt.specs.Printing.{printed, is_point_byte};
 ghost use Rattle.gm_wkt.specs.Value.{geometry_of};
 
 use gm_geom::{has_number_bytes, reads_back};
@@ -35,3 +37,12 @@ pub fn spelled_on_a_line()
     ensures line { (text : List ℕ) (g : Geometry)
         → SpellsText text g → list_any (λ byte. byte == line_feed) text ≡ false }
 {}
+
+/// What is printed of a point that is kept has no byte but those of printed points: no comma and no
+/// quote.
+pub fn points_are_plain()
+    ensures { (p : Point) → fault_of (geo.Point p) ≡ None
+        → list_all is_point_byte (printed (geo.Point p)) ≡ true }
+{
+    has_number_bytes();
+}

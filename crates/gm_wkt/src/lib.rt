@@ -11,6 +11,8 @@ mod reader;
 mod spelled;
 
 pub use fault::WktFault;
-pub use laws::{geometry_is_spelled, one_geometry, printed_is_spelled, spelled_on_a_line};
-pub use printer::print;
+pub use laws::{
+    geometry_is_spelled, one_geometry, points_are_plain, printed_is_spelled, spelled_on_a_line,
+};
+pub use printer::{append, append_point, print};
 pub use reader::read;

@@ -1,6 +1,7 @@
 // Geometries to texts.
 ghost use Rattle.std.specs.Prelude.{◌≡◌, ◌++◌, ◌∷◌, List, ℕ, None, IfOk, OnOk, codes};
 ghost use Rattle.std.specs.String.{string_bytes};
+ghost use Rattle.gm_geom.specs.declared.geometry.Geometry.TheVariants as geo;
 ghost use Rattle.gm_geom.specs.Validity.{fault_of};
 ghost use Rattle.gm_wkt.specs.Grammar as grammar;
 ghost use Rattle.gm_wkt.specs.Grammar.{SpellsText};
@@ -22,10 +23,26 @@ pub fn print(alloc: Global, geometry: &Geometry) -> Result<Text, NoMemory>
     reads_back();
     has_number_bytes();
     let mut out = String::new(alloc);
+    append(&mut out, geometry)?;
+    Ok(Text::from_string(out))
+}
+
+/// Appends the text that `print` gives. Where memory runs out, part of it may be there.
+pub fn append(out: &mut String, geometry: &Geometry) -> Result<(), NoMemory>
+    ensures { OnOk result (string_bytes out.new ≡ string_bytes out.old ++ printed geometry.now) }
+{
     out.push_str(keyword_text(keyword_for(geometry)))?;
     out.push_str(" ")?;
-    append_body(&mut out, geometry)?;
-    Ok(Text::from_string(out))
+    append_body(out, geometry)
+}
+
+/// Appends the text that `print` gives of a point. Where memory runs out, part of it may be there.
+pub fn append_point(out: &mut String, point: &Point) -> Result<(), NoMemory>
+    ensures { OnOk result (string_bytes out.new
+        ≡ string_bytes out.old ++ printed (geo.Point point.now)) }
+{
+    out.push_str("POINT ")?;
+    append_lone(out, point)
 }
 
 fn keyword_for(geometry: &Geometry) -> Keyword
