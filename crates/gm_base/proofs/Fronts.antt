@@ -7,7 +7,7 @@ use Rattle.std.specs.Cmp.{tied_itself}
 use Rattle.std.specs.Ordering.{nat_cmp, ordering_then}
 use Rattle.std.specs.Cmp.Lexicographic.{slice_cmp}
 use Rattle.std.specs.declared.cmp.Ordering.TheVariants.{Less, Equal, Greater}
-use Rattle.gm_base.specs.Front.{first_of, rest_of, front_after, AreBytes, IsFront, digits_room}
+use Rattle.gm_base.specs.Front.{first_of, rest_of, front_after, AreBytes, IsFront}
 
 -- of two numbers the smaller stays so, whatever bytes follow
 pub front-rises : (n : ℕ) (a b : ℕ) (xs ys : List ℕ) → AreBytes n xs → a < b → front_after a n xs < front_after b n ys
@@ -47,40 +47,6 @@ front-less (suc n) a (x ∷ xs) (y ∷ ys) bytes bytes' below = elim (cases_orde
   ]
 ]
 
--- more digits have more room
-pub room-rises : (n m : ℕ) → m ≤ n → digits_room m ≤ digits_room n
-room-rises zero m few = let none : m ≡ 0 = omega (arith, few) in subst (λ k. digits_room k ≤ 1) (sym none) (omega arith)
-room-rises (suc n) m few = elim (cases_order m (suc n)) as (λ _. digits_room m ≤ digits_room n * 256) [
-  | inl same ↦ subst (λ k. digits_room k ≤ digits_room n * 256) (sym same) (omega arith)
-  | inr apart ↦ elim apart as (λ _. digits_room m ≤ digits_room n * 256) [
-    | inl less ↦ let here = room-rises n m (omega (arith, less)) in omega (arith, here)
-    | inr more ↦ absurd (omega (arith, few, more))
-  ]
-]
-
--- one digit more
-pub digit-more : (front byte counter : ℕ) → front < digits_room counter → byte < 256 → front * 256 + byte < digits_room (counter + 1)
-digit-more front byte counter small fits =
-    let next : counter + 1 ≡ suc counter = omega arith in
-    subst (λ k. front * 256 + byte < digits_room k) (sym next) (omega (arith, small, fits))
-
-pub digits-fit : (n counter : ℕ) → counter ≤ 16 → n < digits_room counter → n < 340282366920938463463374607431768211456
-digits-fit n counter few small =
-    let room = room-rises 16 counter few in
-    omega (arith, small, room)
-
-pub front-more : (front byte counter : ℕ) (bytes rest : List ℕ) (whole : ℕ) → counter < 16 → byte ≡ first_of bytes → rest ≡ rest_of bytes
-    → front_after front (16 - counter) bytes ≡ whole → front_after (front * 256 + byte) (16 - (counter + 1)) rest ≡ whole
-front-more front byte counter bytes rest whole few first others before =
-    let next : 16 - counter ≡ suc (16 - (counter + 1)) = omega (arith, few) in
-    ap (λ b. front_after (front * 256 + b) (16 - (counter + 1)) rest) first ∙ ap (λ r. front_after (front * 256 + first_of bytes) (16 - (counter + 1)) r) others
-    ∙ sym (ap (λ n. front_after front n bytes) next) ∙ before
-
-pub bytes-more : (counter byte : ℕ) (bytes rest : List ℕ) → counter < 16 → byte ≡ first_of bytes → rest ≡ rest_of bytes → byte < 256 → AreBytes (16 - (counter + 1)) rest → AreBytes (16 - counter) bytes
-bytes-more counter byte bytes rest few first others fits later =
-    let next : 16 - counter ≡ suc (16 - (counter + 1)) = omega (arith, few) in
-    subst (λ n. AreBytes n bytes) (sym next) (subst (λ b. b < 256) first fits, subst (λ r. AreBytes (16 - (counter + 1)) r) others later)
-
 -- bytes behind the first n change nothing
 pub front-append : (n number : ℕ) (xs ys : List ℕ) → n ≤ length xs → front_after number n (xs ++ ys) ≡ front_after number n xs
 front-append zero number xs ys enough = refl
@@ -101,4 +67,3 @@ IsFront-append number xs ys enough is = record {
 -- numbers of first bytes in order
 pub order-of_fronts : (m n : ℕ) (xs ys : List ℕ) → IsFront m xs → IsFront n ys → m < n → slice_cmp nat_cmp xs ys ≡ Less
 order-of_fronts m n xs ys one other below = front-less 16 0 xs ys one.are_bytes other.are_bytes (omega (arith, below, one.front, other.front))
-

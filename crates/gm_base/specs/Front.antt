@@ -21,11 +21,6 @@ abbrev pub AreBytes : ℕ → List ℕ → Type 0
 AreBytes zero bytes = ⊤
 AreBytes (suc n) bytes = (first_of bytes < 256) × AreBytes n (rest_of bytes)
 
--- numbers of n digits are below this
-abbrev pub digits_room : ℕ → ℕ
-digits_room zero = 1
-digits_room (suc n) = digits_room n * 256
-
 -- the number of the first 16 bytes
 pub record IsFront (number : ℕ) (bytes : List ℕ) : Type 0 where
   pub front : number ≡ front_after 0 16 bytes
