@@ -126,6 +126,11 @@ up_to Less e = refl
 up_to Equal e = refl
 up_to Greater e = absurd (true≢false e)
 
+pub not_up_to : (r : Ordering) → is_le r ≡ false → is_gt r ≡ true
+not_up_to Less e = absurd (true≢false e)
+not_up_to Equal e = absurd (true≢false e)
+not_up_to Greater e = refl
+
 -- ---- the last of the rows
 refl_le : (key : List ℕ) → is_le (slice_cmp nat_cmp key key) ≡ true
 refl_le key = ap is_le (tied_itself nat_list_cmp_total key)

@@ -73,4 +73,19 @@ impl<'a> End<'a> {
         }
         self.bytes.cmp(&key.as_slice()).is_le()
     }
+
+    /// Whether the other end is at this one or after it, likewise.
+    pub(crate) fn is_up_to(&self, other: &End<'_>) -> bool
+        ensures { result ≡ is_le (slice_cmp nat_cmp self.now other.now) }
+    {
+        order_of_fronts();
+        let front = other.front();
+        if self.front < front {
+            return true;
+        }
+        if self.front > front {
+            return false;
+        }
+        self.bytes.cmp(&other.bytes()).is_le()
+    }
 }

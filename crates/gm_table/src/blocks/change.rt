@@ -12,10 +12,10 @@ use gm_base::{Bytes, NoMemory};
 use std::alloc::Global;
 
 // A block of so many rows is cut in two before another row is put in.
-const MOST: usize = 256;
+const MOST: usize = 128;
 
 // How many rows the first of the two keeps.
-const HALF: usize = 128;
+const HALF: usize = 64;
 
 // A block of no more rows is dropped when one of them is taken out.
 const FEWEST: usize = 1;

@@ -23,7 +23,7 @@ use std::ops::Range;
 /// The place of a key in some blocks.
 #[derive(Drop)]
 pub(crate) struct BlockCursor<'a> {
-    from: &'a [u8],
+    from: End<'a>,
     place: Place,
 }
 
@@ -32,12 +32,11 @@ impl<'a> BlockCursor<'a> {
     pub(crate) fn at(blocks: &[Block], low: &'a [u8]) -> BlockCursor<'a>
         requires each { AllByRecursion IsBlock blocks.now }
         requires rising { IsRising (rows_of (lists_of blocks.now)) }
-        ensures { IsAtKey blocks.now result.from.now result.place.block result.place.row }
+        ensures { IsAtKey blocks.now result.from result.place.block result.place.row }
     {
-        BlockCursor {
-            from: low,
-            place: place_from(blocks, low),
-        }
+        let from = End::of(low);
+        let place = place_from(blocks, &from);
+        BlockCursor { from, place }
     }
 
     /// Hands out the rows between two keys, from where the cursor is if they may lie there.
@@ -52,10 +51,11 @@ impl<'a> BlockCursor<'a> {
     ) -> Result<(), NoMemory>
         requires each { AllByRecursion IsBlock blocks.now }
         requires rising { IsRising (rows_of (lists_of blocks.now)) }
-        requires at { IsAtKey blocks.now self.old.from.now self.old.place.block self.old.place.row }
+        requires at { IsAtKey blocks.now self.old.from self.old.place.block self.old.place.row }
         requires admits { All (λ row. V.admits visit.old row.0 row.1)
             (between low.now high.now (rows_of (lists_of blocks.now))) }
-        ensures at { OnOk result (IsAtKey blocks.now self.new.from.now self.new.place.block self.new.place.row) }
+        ensures at { OnOk result
+            (IsAtKey blocks.now self.new.from self.new.place.block self.new.place.row) }
         ensures handed { OnOk result (Handed V.takes visit.old
             (between low.now high.now (rows_of (lists_of blocks.now))) visit.new) }
         ensures tally { OnOk result (tally_number tally.new ≡ capped_sum (tally_number tally.old)
@@ -65,44 +65,73 @@ impl<'a> BlockCursor<'a> {
             (between low.now high.now (rows_of (lists_of blocks.now))) fault visit.new handed
             × (tally_number tally.new ≡ capped_sum (tally_number tally.old) handed)) }
     {
-        if self.is_clear(blocks, low, high) {
+        self.scan_ends(alloc, blocks, &End::of(low), End::of(high), visit, tally)
+    }
+
+    // The same, of ends whose first bytes are at hand.
+    fn scan_ends<V: Visit>(
+        &mut self,
+        alloc: Global,
+        blocks: &[Block],
+        low: &End<'a>,
+        high: End<'a>,
+        visit: &mut V,
+        tally: &mut Tally,
+    ) -> Result<(), NoMemory>
+        requires each { AllByRecursion IsBlock blocks.now }
+        requires rising { IsRising (rows_of (lists_of blocks.now)) }
+        requires at { IsAtKey blocks.now self.old.from self.old.place.block self.old.place.row }
+        requires admits { All (λ row. V.admits visit.old row.0 row.1)
+            (between low.now high (rows_of (lists_of blocks.now))) }
+        ensures at { OnOk result
+            (IsAtKey blocks.now self.new.from self.new.place.block self.new.place.row) }
+        ensures handed { OnOk result (Handed V.takes visit.old
+            (between low.now high.entry (rows_of (lists_of blocks.now))) visit.new) }
+        ensures tally { OnOk result (tally_number tally.new ≡ capped_sum (tally_number tally.old)
+            (length (between low.now high.entry (rows_of (lists_of blocks.now))))) }
+        ensures stopped { IfErr result (λ fault. (handed : ℕ)
+            × Stops V.takes visit.old
+            (between low.now high.entry (rows_of (lists_of blocks.now))) fault visit.new handed
+            × (tally_number tally.new ≡ capped_sum (tally_number tally.old) handed)) }
+    {
+        if self.is_clear(blocks, low, &high) {
             return Ok(());
         }
-        if low.cmp(&high).is_gt() {
+        if !low.is_up_to(&high) {
             return Ok(());
         }
         let place = self.reach(blocks, low);
-        self.place = hand_out_until(alloc, blocks, place, &End::of(high), visit, tally)?;
+        self.place = hand_out_until(alloc, blocks, place, &high, visit, tally)?;
         self.from = high;
         Ok(())
     }
 
     // Whether no row from the cursor's key on is below `high`, and `low` is not below that key.
-    fn is_clear(&self, blocks: &[Block], low: &[u8], high: &[u8]) -> bool
+    fn is_clear(&self, blocks: &[Block], low: &End<'_>, high: &End<'_>) -> bool
         requires each { AllByRecursion IsBlock blocks.now }
         requires place { IsPlace self.now.place.block self.now.place.row blocks.now }
-        ensures from { result ≡ true → is_le (slice_cmp nat_cmp self.now.from.now low.now) ≡ true }
+        ensures from { result ≡ true → is_le (slice_cmp nat_cmp self.now.from low.now) ≡ true }
         ensures clear { result ≡ true →
             rows_below high.now (rows_at self.now.place.block self.now.place.row blocks.now) ≡ [] }
     {
-        if self.from.cmp(&low).is_gt() {
+        if !self.from.is_up_to(low) {
             return false;
         }
         match row_at(blocks, self.place) {
-            Some(row) => End::of(high).is_reached(&row.key),
+            Some(row) => high.is_reached(&row.key),
             None => true,
         }
     }
 
     // The place of a key: in the same block if it is there.
-    fn reach(&self, blocks: &[Block], low: &[u8]) -> Place
+    fn reach(&self, blocks: &[Block], low: &End<'_>) -> Place
         requires each { AllByRecursion IsBlock blocks.now }
         requires rising { IsRising (rows_of (lists_of blocks.now)) }
-        requires at { IsAtKey blocks.now self.now.from.now self.now.place.block self.now.place.row }
+        requires at { IsAtKey blocks.now self.now.from self.now.place.block self.now.place.row }
         ensures { IsAtKey blocks.now low.now result.block result.row }
     {
-        if self.from.cmp(&low).is_le() {
-            if let Some(place) = step_to(blocks, self.place, &End::of(low)) {
+        if self.from.is_up_to(low) {
+            if let Some(place) = step_to(blocks, self.place, low) {
                 return place;
             }
         }
@@ -149,12 +178,12 @@ pub(crate) fn scan_part<V: Visit>(
 }
 
 // The place of a key.
-fn place_from(blocks: &[Block], low: &[u8]) -> Place
+fn place_from(blocks: &[Block], low: &End<'_>) -> Place
     requires each { AllByRecursion IsBlock blocks.now }
     requires rising { IsRising (rows_of (lists_of blocks.now)) }
     ensures { IsAtKey blocks.now low.now result.block result.row }
 {
-    place_of(blocks, &End::of(low))
+    place_of(blocks, low)
 }
 
 // The place of a key, where that is before a row of the place's block, from the place on.

@@ -7,5 +7,5 @@ use Rattle.gm_table.proofs.blocks.cursor.place_from.Goals as goal
 pub returns : goal.returns
 returns c = record {
   place = c.place_of.ensures.place;
-  rows = c.place_of.ensures.from ∙ ap (λ key. rows_after key (rows_of (lists_of c.args.blocks.now))) c.of.ensures ∙ after-from c.args.low.now (rows_of (lists_of c.args.blocks.now)) c.requires.rising;
+  rows = c.place_of.ensures.from ∙ after-from c.args.low.now (rows_of (lists_of c.args.blocks.now)) c.requires.rising;
 }

@@ -9,11 +9,10 @@ use Rattle.gm_table.proofs.blocks.cursor.BlockCursor.reach.Goals as goal
 
 pub returns-in-Some : goal.returns-in-Some
 returns-in-Some c =
-    let from = c.args.self.now.from.now in
+    let from = c.args.self.now.from in
     let low = c.args.low.now in
     let up : is_le (slice_cmp nat_cmp from low) ≡ true = grind (arith, common_steps) in
     record {
       place = c.in-Some.ensures.place;
-      rows = c.in-Some.ensures.rows ∙ ap (λ key. rows_after key (rows_at c.args.self.now.place.block c.args.self.now.place.row c.args.blocks.now)) c.of.ensures
-          ∙ ap (rows_after low) c.requires.at.rows ∙ after-is from low (rows_of (lists_of c.args.blocks.now)) up c.requires.rising;
+      rows = c.in-Some.ensures.rows ∙ ap (rows_after low) c.requires.at.rows ∙ after-is from low (rows_of (lists_of c.args.blocks.now)) up c.requires.rising;
     }
