@@ -39,44 +39,14 @@ fn intervals_in(alloc: Global, filter: &Filter, at: u16) -> Result<Intervals, No
         Filter::Not(_) => Ok(Bound::World),
         Filter::And(members) => intervals_in_all(alloc, members, at),
         Filter::Or(members) => counted(alloc, intervals_in_any(alloc, members, at)?),
-        Filter::Compare(tested, op, literal) => {
-            if *tested == at {
-                compared(alloc, *op, literal)
-            } else {
-                Ok(Bound::World)
-            }
-        }
-        Filter::Between(tested, low, high) => {
-            if *tested == at {
-                lying_between(alloc, low, high)
-            } else {
-                Ok(Bound::World)
-            }
-        }
-        Filter::OneOf(tested, literals) => {
-            if *tested == at {
-                instants(alloc, literals.as_slice())
-            } else {
-                Ok(Bound::World)
-            }
-        }
-        Filter::During(tested, low, high) => {
-            if *tested == at {
-                during(alloc, *low, *high)
-            } else {
-                Ok(Bound::World)
-            }
-        }
+        Filter::Compare(tested, op, literal) if *tested == at => compared(alloc, *op, literal),
+        Filter::Between(tested, low, high) if *tested == at => lying_between(alloc, low, high),
+        Filter::OneOf(tested, literals) if *tested == at => instants(alloc, literals.as_slice()),
+        Filter::During(tested, low, high) if *tested == at => during(alloc, *low, *high),
         Filter::Before(tested, end) => dated_on(alloc, *tested, at, Op::Lt, *end),
         Filter::After(tested, start) => dated_on(alloc, *tested, at, Op::Gt, *start),
         Filter::Tequals(tested, instant) => dated_on(alloc, *tested, at, Op::Eq, *instant),
-        Filter::Like(_, _) => Ok(Bound::World),
-        Filter::IsNull(_) => Ok(Bound::World),
-        Filter::Ids(_) => Ok(Bound::World),
-        Filter::Bbox(_, _) => Ok(Bound::World),
-        Filter::Intersects(_, _) => Ok(Bound::World),
-        Filter::Disjoint(_, _) => Ok(Bound::World),
-        Filter::Within(_, _) => Ok(Bound::World),
+        _ => Ok(Bound::World),
     }
 }
 

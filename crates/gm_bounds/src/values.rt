@@ -57,50 +57,21 @@ fn ranges_in(alloc: Global, filter: &Filter, at: u16, kind: Kind) -> Result<Byte
         Filter::Not(_) => Ok(Bound::World),
         Filter::And(members) => ranges_in_all(alloc, members, at, kind),
         Filter::Or(members) => counted(alloc, ranges_in_any(alloc, members, at, kind)?),
-        Filter::Compare(tested, op, literal) => {
-            if *tested == at {
-                compared(alloc, *op, literal_form(alloc, kind, literal)?)
-            } else {
-                Ok(Bound::World)
-            }
+        Filter::Compare(tested, op, literal) if *tested == at => {
+            compared(alloc, *op, literal_form(alloc, kind, literal)?)
         }
-        Filter::Between(tested, low, high) => {
-            if *tested == at {
-                lying_between(alloc, kind, low, high)
-            } else {
-                Ok(Bound::World)
-            }
+        Filter::Between(tested, low, high) if *tested == at => {
+            lying_between(alloc, kind, low, high)
         }
-        Filter::Like(tested, pattern) => {
-            if *tested == at {
-                patterned(alloc, pattern)
-            } else {
-                Ok(Bound::World)
-            }
+        Filter::Like(tested, pattern) if *tested == at => patterned(alloc, pattern),
+        Filter::OneOf(tested, literals) if *tested == at => {
+            ranges(alloc, kind, literals.as_slice())
         }
-        Filter::OneOf(tested, literals) => {
-            if *tested == at {
-                ranges(alloc, kind, literals.as_slice())
-            } else {
-                Ok(Bound::World)
-            }
-        }
-        Filter::During(tested, low, high) => {
-            if *tested == at {
-                during(alloc, *low, *high)
-            } else {
-                Ok(Bound::World)
-            }
-        }
+        Filter::During(tested, low, high) if *tested == at => during(alloc, *low, *high),
         Filter::Before(tested, end) => dated_on(alloc, *tested, at, Op::Lt, *end),
         Filter::After(tested, start) => dated_on(alloc, *tested, at, Op::Gt, *start),
         Filter::Tequals(tested, instant) => dated_on(alloc, *tested, at, Op::Eq, *instant),
-        Filter::IsNull(_) => Ok(Bound::World),
-        Filter::Ids(_) => Ok(Bound::World),
-        Filter::Bbox(_, _) => Ok(Bound::World),
-        Filter::Intersects(_, _) => Ok(Bound::World),
-        Filter::Disjoint(_, _) => Ok(Bound::World),
-        Filter::Within(_, _) => Ok(Bound::World),
+        _ => Ok(Bound::World),
     }
 }
 
