@@ -16,6 +16,7 @@ use Rattle.gm_geom.specs.Geometry.{joined, points_of}
 use Rattle.gm_geom.specs.Validity.{fault_of, has_empty_list, is_empty, is_hollow}
 use Rattle.gm_types.specs.declared.attribute.Attribute.{Attribute}
 use Rattle.gm_types.specs.declared.kind.GeoKind.TheVariants as shape
+use Rattle.gm_feature.specs.declared.cursor.StoredValues.{StoredValues}
 use Rattle.gm_feature.specs.declared.feature.Feature.{Feature}
 use Rattle.gm_feature.specs.declared.stored.Stored.{Stored}
 use Rattle.gm_feature.specs.declared.stored.StoredValue.{StoredValue}
@@ -24,8 +25,8 @@ use Rattle.gm_feature.specs.declared.value.Value.TheVariants as value
 use Rattle.gm_feature.specs.Feature.{values_fit}
 use Rattle.gm_feature.specs.Reading.{made, identifier_from, geometry_from, value_from, values_from}
 use Rattle.gm_feature.specs.Spelling.{shape_byte, geometry_bytes, values_bytes}
-use Rattle.gm_feature.specs.Stored.{IsStored, Says, is_point}
-use Rattle.gm_feature.specs.Value.{value_fits}
+use Rattle.gm_feature.specs.Stored.{IsStored, AreStored, Says, is_point}
+use Rattle.gm_feature.specs.Value.{value_fits, is_of_kind, is_sound}
 use Rattle.gm_feature.proofs.Contents.{instant_fits, value_again}
 use Rattle.gm_feature.proofs.Fields.{made_some}
 use Rattle.gm_feature.proofs.Fitting.{kinds}
@@ -146,3 +147,22 @@ no_value_there (a ∷ attributes) (v ∷ values) (suc n) le fit = no_value_there
 -- the identifier is read of the bytes of a feature that fits
 pub stored_identifier : (s : Stored) (f : Feature) → IsStored s f → identifier_from s.bytes.now ≡ Some (f.id, values_bytes f.values)
 stored_identifier s f is = ap identifier_from is.same ∙ identifier_again f.id (values_bytes f.values) is.fits.identifier
+
+-- the first of the values that are left is read, and the others are left
+pub first_read : (s : StoredValues) (a : Attribute) (rest : List Attribute) (first : Value) (others : List Value) → s.attributes.now ≡ a ∷ rest → AreStored s (first ∷ others)
+    → (value_from a.kind s.bytes.now ≡ Some (first, values_bytes others)) × (is_sound first ≡ true) × (values_fit (kinds rest) others ≡ true)
+first_read s a rest first others list is =
+    let fit : values_fit (kinds (a ∷ rest)) (first ∷ others) ≡ true = subst (λ (attributes : List Attribute). values_fit (kinds attributes) (first ∷ others) ≡ true) list is.fit in
+    let parts = both_so (value_fits a.kind first) (values_fit (kinds rest) others) fit in (
+      ap (value_from a.kind) is.same ∙ value_again a.kind first (values_bytes others) parts.0,
+      (both_so (is_of_kind a.kind first) (is_sound first) parts.0).1,
+      parts.1,
+    )
+
+-- there are no more values than attributes
+pub no_first : (s : StoredValues) (first : Value) (others : List Value) → length s.attributes.now ≡ 0 → AreStored s (first ∷ others) → ⊥
+no_first s first others none is = go s.attributes.now none is.fit
+  where
+    go : (attributes : List Attribute) → length attributes ≡ 0 → values_fit (kinds attributes) (first ∷ others) ≡ true → ⊥
+    go [] none fit = absurd cc
+    go (a ∷ attributes) none fit = absurd (omega (arith, none))

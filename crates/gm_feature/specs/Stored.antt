@@ -1,10 +1,11 @@
 -- What is stored, seen in place.
-use Rattle.std.specs.Prelude.{◌≡◌, Bool, true, false, None, Some}
+use Rattle.std.specs.Prelude.{◌≡◌, Bool, true, false, List, map, None, Some}
 use Rattle.gm_geom.specs.declared.geometry.Geometry.{Geometry}
 use Rattle.gm_geom.specs.declared.geometry.Geometry.TheVariants as geo
 use Rattle.gm_geom.specs.Extent.{IsLeastBox, extent_of}
 use Rattle.gm_geom.specs.Geometry.{points_of}
 use Rattle.gm_geom.specs.Validity.{fault_of}
+use Rattle.gm_feature.specs.declared.cursor.StoredValues.{StoredValues}
 use Rattle.gm_feature.specs.declared.feature.Feature.{Feature}
 use Rattle.gm_feature.specs.declared.stored.Stored.{Stored}
 use Rattle.gm_feature.specs.declared.stored.StoredGeometry.{StoredGeometry}
@@ -12,13 +13,18 @@ use Rattle.gm_feature.specs.declared.stored.StoredValue.{StoredValue}
 use Rattle.gm_feature.specs.declared.stored.StoredValue.TheVariants as stored
 use Rattle.gm_feature.specs.declared.value.Value.{Value}
 use Rattle.gm_feature.specs.declared.value.Value.TheVariants as value
-use Rattle.gm_feature.specs.Feature.{Fits}
-use Rattle.gm_feature.specs.Spelling.{feature_bytes, geometry_bytes}
+use Rattle.gm_feature.specs.Feature.{Fits, values_fit}
+use Rattle.gm_feature.specs.Spelling.{values_bytes, feature_bytes, geometry_bytes}
 
 -- the feature fits the type, and the bytes are its own
 pub record IsStored (s : Stored) (f : Feature) : Type 0 where
   pub fits : Fits s.of.now f
   pub same : s.bytes.now ≡ feature_bytes f
+
+-- the values fit the attributes, and the bytes are their own
+pub record AreStored (s : StoredValues) (values : List Value) : Type 0 where
+  pub fit : values_fit (map (λ attribute. attribute.kind) s.attributes.now) values ≡ true
+  pub same : s.bytes.now ≡ values_bytes values
 
 abbrev pub is_point : Geometry → Bool
 is_point (geo.Point point) = true

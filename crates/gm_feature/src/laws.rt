@@ -1,18 +1,20 @@
 // Laws of the definitions, for the crates above.
 ghost use Rattle.std.specs.Int.{w16};
-ghost use Rattle.std.specs.Prelude.{◌≡◌, ◌<◌, ◌^◌, ◌++◌, ℕ, ℤ, List, true, length, Some, is_some};
+ghost use Rattle.std.specs.Prelude.{◌≡◌, ◌<◌, ◌^◌, ◌++◌, ℕ, ℤ, List, true, length, Some, is_some, IsUtf8};
 ghost use Rattle.gm_base.specs.Identifier.{is_identifier};
 ghost use Rattle.gm_calendar.specs.Bin.{bin_at};
 ghost use Rattle.gm_types.specs.declared.kind.Kind.{Kind};
 ghost use Rattle.gm_types.specs.FeatureType.{IsType};
 ghost use Rattle.gm_types.specs.Specification.{Specification, kinds_of, kind_at, default_date_of, period_of};
 ghost use Rattle.gm_feature.specs.declared.feature.Feature.{Feature};
-ghost use Rattle.gm_feature.specs.declared.value.Value.TheVariants.{Date};
+ghost use Rattle.gm_feature.specs.declared.stored.Stored.{Stored};
+ghost use Rattle.gm_feature.specs.declared.value.Value.TheVariants.{Date, Text};
 ghost use Rattle.gm_feature.specs.Feature.{Fits, value_at, has_time_index};
 ghost use Rattle.gm_feature.specs.declared.value.Value.{Value};
 ghost use Rattle.gm_feature.specs.Reading.{identifier_from, value_from, feature_from};
 ghost use Rattle.gm_feature.specs.Spelling.{string_bytes, value_bytes, feature_bytes};
-ghost use Rattle.gm_feature.specs.Value.{value_fits};
+ghost use Rattle.gm_feature.specs.Stored.{IsStored};
+ghost use Rattle.gm_feature.specs.Value.{value_fits, is_sound};
 
 /// A feature that fits has as many values as its type has attributes, each one that the kind of its
 /// attribute may hold, and a default date in a bin where an index over time is enabled.
@@ -47,4 +49,10 @@ pub fn spellings_are_read()
         → value_from k (value_bytes v ++ rest) ≡ Some (v, rest) }
     ensures feature { (t : Specification) (f : Feature) → Fits t f
         → feature_from t (feature_bytes f) ≡ Some f }
+{}
+
+/// The identifier of a feature that is stored is UTF-8, and so is a text that is sound.
+pub fn stored_texts_are_utf8()
+    ensures identifier { (s : Stored) (f : Feature) → IsStored s f → IsUtf8 f.id }
+    ensures text { (text : List ℕ) → is_sound (Text text) ≡ true → IsUtf8 text }
 {}

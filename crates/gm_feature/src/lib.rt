@@ -1,6 +1,7 @@
 //! Features of a type: their values, whether they fit the type, and their bytes.
 #![tactic(auto)]
 
+mod cursor;
 mod feature;
 mod fit;
 mod fronts;
@@ -16,11 +17,12 @@ mod stored;
 mod value;
 mod writer;
 
+pub use cursor::StoredValues;
 pub use feature::{Feature, FeatureList};
 pub use fit::{TEXT_LIMIT, dates_fit, fits, has_text_form, value_fits};
 pub use laws::{
     bytes_tell_features_apart, fitting_features_have_few_bytes, fitting_features_have_values,
-    spellings_are_read,
+    spellings_are_read, stored_texts_are_utf8,
 };
 pub use reader::from_bytes;
 pub use shape::{copy_geometry, has_shape};

@@ -102,8 +102,8 @@ fn skip_content(kind: Kind, bytes: &[u8]) -> &[u8]
     }
 }
 
-// Null is its one byte.
-fn skip_value(kind: Kind, bytes: &[u8]) -> &[u8]
+/// The bytes behind a value. Null is its one byte.
+pub fn skip_value(kind: Kind, bytes: &[u8]) -> &[u8]
     ensures { ForSome (value_from kind bytes.now) (λ x. result.now ≡ x.1) }
 {
     match bytes {

@@ -11,8 +11,9 @@ ghost use Rattle.gm_feature.specs.declared.value.Value.TheVariants as value;
 ghost use Rattle.gm_feature.specs.Feature.{value_at};
 ghost use Rattle.gm_feature.specs.Reading.{identifier_from, geometry_from, text_from, truth_from, instant_from, content_from, value_from};
 ghost use Rattle.gm_feature.specs.Spelling.{geometry_bytes};
-ghost use Rattle.gm_feature.specs.Stored.{IsStored, Says, is_point};
+ghost use Rattle.gm_feature.specs.Stored.{IsStored, AreStored, Says, is_point};
 
+use crate::cursor::StoredValues;
 use crate::fronts::{integer_at, long_at, point_at, short_string_at, string_at};
 use crate::halt::Halt;
 use crate::lists::geometry_of;
@@ -85,6 +86,18 @@ impl<'a> Stored<'a> {
             skip_values(before, values_of(self.bytes)),
         )
     }
+
+    /// All values, in the order of the attributes.
+    pub fn values(&self) -> StoredValues<'a>
+        ensures { (f : Feature) → IsStored self.now f → AreStored result f.values }
+    {
+        let of = self.of;
+        let bytes: &'a [u8] = self.bytes;
+        StoredValues {
+            attributes: of.attributes().as_slice(),
+            bytes: values_of(bytes),
+        }
+    }
 }
 
 // The bytes behind the identifier.
@@ -94,7 +107,8 @@ fn values_of(bytes: &[u8]) -> &[u8]
     short_string_at(bytes).1
 }
 
-fn stored_value(kind: Kind, bytes: &[u8]) -> StoredValue<'_>
+/// The value of that kind at the front of the bytes.
+pub fn stored_value(kind: Kind, bytes: &[u8]) -> StoredValue<'_>
     ensures { ForSome (value_from kind bytes.now) (λ x. Says result x.0) }
 {
     match bytes {
