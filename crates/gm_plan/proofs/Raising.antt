@@ -50,12 +50,8 @@ pub after_behind : (front bytes end : List ℕ) → after_of bytes ≡ Some end 
 after_behind [] bytes end is = is
 after_behind (x ∷ front) bytes end is = ap (raised x) (after_behind front bytes end is)
 
-pub span_behind_is : (a b c low high lows highs raised_bytes : List ℕ) (count : ℕ) → count ≢ 0 → lows ≡ low → highs ≡ high → after_of highs ≡ up_to count raised_bytes
-    → (a ++ (b ++ (c ++ lows)), a ++ (b ++ (c ++ take count raised_bytes))) ≡ from_to (a ++ (b ++ (c ++ low))) (a ++ (b ++ (c ++ high)))
-span_behind_is a b c low high lows highs raised_bytes count some low_is high_is is =
-    let end : after_of high ≡ Some (take count raised_bytes) =
-    ap after_of (sym high_is) ∙ is ∙ ap (λ t. cond t None (Some (take count raised_bytes))) (zero_isnt count some) in
-    ap (λ xs. (a ++ (b ++ (c ++ xs)), a ++ (b ++ (c ++ take count raised_bytes)))) low_is
-    ∙ ap (λ o. (a ++ (b ++ (c ++ low)), end_or_none o))
-    (sym (after_behind a (b ++ (c ++ high)) (b ++ (c ++ take count raised_bytes))
-    (after_behind b (c ++ high) (c ++ take count raised_bytes) (after_behind c high (take count raised_bytes) end))))
+pub span_behind_is : (front low high raised_bytes : List ℕ) (count : ℕ) → count ≢ 0 → after_of high ≡ up_to count raised_bytes
+    → (front ++ low, front ++ take count raised_bytes) ≡ from_to (front ++ low) (front ++ high)
+span_behind_is front low high raised_bytes count some is =
+    let end : after_of high ≡ Some (take count raised_bytes) = is ∙ ap (λ t. cond t None (Some (take count raised_bytes))) (zero_isnt count some) in
+    ap (λ o. (front ++ low, end_or_none o)) (sym (after_behind front high (take count raised_bytes) end))

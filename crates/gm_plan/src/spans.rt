@@ -7,7 +7,7 @@ ghost use Rattle.gm_plan.specs.Spans as spec;
 ghost use Rattle.gm_plan.specs.Raised.{up_to};
 
 use byteorder::{BigEndian, ByteOrder};
-use gm_base::{Bytes, NoMemory};
+use gm_base::{Bytes, NoMemory, Prefix};
 use gm_bounds::{ByteRangeList, KeyRanges, Range};
 use gm_lexi::after;
 use gm_types::{FeatureType, IndexKind};
@@ -25,31 +25,64 @@ pub fn byte_ranges(
     ensures { IfOk result (λ spans. spans ≡ spec.spans_of of.now kind of_ranges.now) }
 {
     let prefix = prefix_of(alloc, of, kind)?;
-    let mut spans = ByteRangeList::new(alloc);
+    let ranges = of_ranges.ranges.as_slice();
+    let mut spans = room_for(alloc, ranges.len(), of_ranges.shards)?;
     'shards: for shard in 0..of_ranges.shards {
-        push_spans(
-            alloc,
-            &mut spans,
-            prefix.as_slice(),
-            shard,
-            of_ranges.ranges.as_slice(),
-        )?;
+        let front = Front::of(alloc, prefix.as_slice(), shard)?;
+        push_spans(alloc, &mut spans, &front, ranges)?;
     }
     Ok(spans)
+}
+
+// How many bytes the two ends of a span of codes in a bin have.
+const ENDS_ROOM: usize = 28;
+
+// A list with room for so many spans in each shard.
+fn room_for(alloc: Global, ranges: usize, shards: u8) -> Result<ByteRangeList, NoMemory>
+    ensures { IfOk result (λ spans. spans ≡ []) }
+{
+    let count = ranges.saturating_mul(usize::from(shards));
+    ByteRangeList::with_capacity(alloc, count, count.saturating_mul(ENDS_ROOM))
+}
+
+// What the keys of an index begin with in a shard.
+#[derive(Drop)]
+struct Front<'a> {
+    prefix: &'a [u8],
+    shard: u8,
+    joined: Prefix,
+    ghost same: { joined ≡ prefix.now ++ shard ∷ [] },
+}
+
+impl<'a> Front<'a> {
+    fn of(alloc: Global, prefix: &'a [u8], shard: u8) -> Result<Front<'a>, NoMemory>
+        requires { length prefix.now ≤ 15 }
+        ensures prefix { IfOk result (λ front. front.prefix.now ≡ prefix.now) }
+        ensures shard { IfOk result (λ front. front.shard ≡ shard) }
+    {
+        let mut bytes = Bytes::from_slice(alloc, prefix)?;
+        bytes.append(&[shard])?;
+        let joined = Prefix::of(bytes.as_slice());
+        Ok(Front {
+            prefix,
+            shard,
+            joined,
+        })
+    }
 }
 
 // Adds the spans of a shard.
 fn push_spans(
     alloc: Global,
     spans: &mut ByteRangeList,
-    prefix: &[u8],
-    shard: u8,
+    front: &Front<'_>,
     ranges: &[Range],
 ) -> Result<(), NoMemory>
-    ensures { OnOk result (spans.new ≡ spans.old ++ spec.spans_in prefix.now ranges.now shard) }
+    ensures { OnOk result (spans.new
+        ≡ spans.old ++ spec.spans_in front.now.prefix.now ranges.now front.now.shard) }
 {
     'each: for range in ranges {
-        push_span(alloc, spans, prefix, shard, range)?;
+        push_span(alloc, spans, front, range)?;
     }
     Ok(())
 }
@@ -57,108 +90,88 @@ fn push_spans(
 fn push_span(
     alloc: Global,
     spans: &mut ByteRangeList,
-    prefix: &[u8],
-    shard: u8,
+    front: &Front<'_>,
     range: &Range,
 ) -> Result<(), NoMemory>
     ensures { OnOk result (spans.new
-        ≡ spans.old ++ spec.span_behind prefix.now shard range.now ∷ []) }
+        ≡ spans.old ++ spec.span_behind front.now.prefix.now front.now.shard range.now ∷ []) }
 {
     match range {
-        Range::Codes(low, high, _) => push_codes(alloc, spans, prefix, shard, *low, *high),
+        Range::Codes(low, high, _) => push_codes(alloc, spans, front, *low, *high),
         Range::InBin(number, low, high, _) => {
-            push_in_bin(alloc, spans, prefix, shard, *number, *low, *high)
+            push_in_bin(alloc, spans, front, *number, *low, *high)
         }
-        Range::Span(first, last) => push_bins(alloc, spans, prefix, shard, *first, *last),
-        Range::Values(low, high) => push_values(alloc, spans, prefix, low.as_slice(), high),
-        Range::OneId(id) => push_id(spans, prefix, id.as_bytes()),
-        Range::All => push_from_to(alloc, spans, prefix, prefix),
+        Range::Span(first, last) => push_bins(alloc, spans, front, *first, *last),
+        Range::Values(low, high) => {
+            push_values(alloc, spans, front.prefix, low.as_slice(), high)
+        }
+        Range::OneId(id) => push_id(spans, front.prefix, id.as_bytes()),
+        Range::All => push_from_to(alloc, spans, front.prefix, front.prefix),
     }
 }
 
-#[tactic(auto, unfolding(gm_keys::specs::Key::code_front))]
+#[tactic(auto, using(crate::proofs::Fronts::code_front_is))]
 fn push_codes(
     alloc: Global,
     spans: &mut ByteRangeList,
-    prefix: &[u8],
-    shard: u8,
+    front: &Front<'_>,
     low: u64,
     high: u64,
 ) -> Result<(), NoMemory>
     ensures { OnOk result (spans.new ≡ spans.old ++ spec.from_to
-        (key.code_front prefix.now shard low) (key.code_front prefix.now shard high) ∷ []) }
+        (key.code_front front.now.prefix.now front.now.shard low)
+        (key.code_front front.now.prefix.now front.now.shard high) ∷ []) }
 {
-    if push_behind(spans, prefix, &[shard], &[], low, high)? {
+    if push_behind(spans, &front.joined, code_bytes(low), code_bytes(high))? {
         return Ok(());
     }
-    let low = code_front(alloc, prefix, shard, low)?;
-    let high = code_front(alloc, prefix, shard, high)?;
+    let low = code_front(alloc, front, low)?;
+    let high = code_front(alloc, front, high)?;
     push_from_to(alloc, spans, low.as_slice(), high.as_slice())
 }
 
-#[tactic(auto, unfolding(gm_keys::specs::Key::bin_code_front))]
+#[tactic(auto, using(crate::proofs::Fronts::bin_code_front_is))]
 fn push_in_bin(
     alloc: Global,
     spans: &mut ByteRangeList,
-    prefix: &[u8],
-    shard: u8,
+    front: &Front<'_>,
     number: u16,
     low: u64,
     high: u64,
 ) -> Result<(), NoMemory>
     ensures { OnOk result (spans.new ≡ spans.old ++ spec.from_to
-        (key.bin_code_front prefix.now shard number low)
-        (key.bin_code_front prefix.now shard number high) ∷ []) }
+        (key.bin_code_front front.now.prefix.now front.now.shard number low)
+        (key.bin_code_front front.now.prefix.now front.now.shard number high) ∷ []) }
 {
-    if push_behind(spans, prefix, &[shard], &number_bytes(number), low, high)? {
+    let least = in_bin_bytes(number, low);
+    let most = in_bin_bytes(number, high);
+    if push_behind(spans, &front.joined, least, most)? {
         return Ok(());
     }
-    let low = bin_code_front(alloc, prefix, shard, number, low)?;
-    let high = bin_code_front(alloc, prefix, shard, number, high)?;
+    let low = bin_code_front(alloc, front, number, low)?;
+    let high = bin_code_front(alloc, front, number, high)?;
     push_from_to(alloc, spans, low.as_slice(), high.as_slice())
 }
 
-// Adds the span of codes behind these parts without a front of its own, and answers whether it did:
-// not where the high code has bytes 0xFF alone, since then the parts before it are raised.
-fn push_behind(
+// Adds the span of what stands behind a prefix, without a list of its own for an end, and answers
+// whether it did: not where the high part has bytes 0xFF alone, since then the prefix is raised.
+fn push_behind<const N: usize>(
     spans: &mut ByteRangeList,
-    first: &[u8],
-    second: &[u8],
-    third: &[u8],
-    low: u64,
-    high: u64,
+    prefix: &Prefix,
+    low: [u8; N],
+    high: [u8; N],
 ) -> Result<bool, NoMemory>
     ensures pushed { IfOk result (λ pushed. pushed ≡ true → spans.new ≡ spans.old
-        ++ spec.from_to (first.now ++ (second.now ++ (third.now ++ big_bytes 8 low)))
-        (first.now ++ (second.now ++ (third.now ++ big_bytes 8 high))) ∷ []) }
+        ++ spec.from_to (prefix.now ++ low.entry) (prefix.now ++ high.entry) ∷ []) }
     ensures not { IfOk result (λ pushed. pushed ≡ false → spans.new ≡ spans.old) }
 {
-    let least = code_bytes(low);
-    let mut end = code_bytes(high);
+    let mut end = high;
     let count = raise(&mut end);
     if count == 0 {
         return Ok(false);
     }
-    push_parts(spans, first, second, third, &least, &end[..count])?;
+    spans.push_behind(prefix, &low, &end, count)?;
     Ok(true)
-}
-
-// Adds the span of two ends that have these parts in front.
-fn push_parts(
-    spans: &mut ByteRangeList,
-    first: &[u8],
-    second: &[u8],
-    third: &[u8],
-    low: &[u8],
-    high: &[u8],
-) -> Result<(), NoMemory>
-    ensures { OnOk result (spans.new ≡ spans.old
-        ++ (
-          first.now ++ (second.now ++ (third.now ++ low.now)),
-          first.now ++ (second.now ++ (third.now ++ high.now)),
-        ) ∷ []) }
-{
-    spans.push(&[first, second, third, low], &[first, second, third, high])
 }
 
 // Raises the last byte that is not 0xFF by one, and answers how many bytes stand up to it.
@@ -179,16 +192,16 @@ fn raise(bytes: &mut [u8]) -> usize
 fn push_bins(
     alloc: Global,
     spans: &mut ByteRangeList,
-    prefix: &[u8],
-    shard: u8,
+    front: &Front<'_>,
     first: u16,
     last: u16,
 ) -> Result<(), NoMemory>
     ensures { OnOk result (spans.new ≡ spans.old ++ spec.from_to
-        (key.bin_front prefix.now shard first) (key.bin_front prefix.now shard last) ∷ []) }
+        (key.bin_front front.now.prefix.now front.now.shard first)
+        (key.bin_front front.now.prefix.now front.now.shard last) ∷ []) }
 {
-    let low = bin_front(alloc, prefix, shard, first)?;
-    let high = bin_front(alloc, prefix, shard, last)?;
+    let low = bin_front(alloc, front, first)?;
+    let high = bin_front(alloc, front, last)?;
     push_from_to(alloc, spans, low.as_slice(), high.as_slice())
 }
 
@@ -236,7 +249,8 @@ fn push_values(
 
 #[tactic(auto, unfolding(gm_keys::specs::Key::prefix_of))]
 fn prefix_of(alloc: Global, of: &FeatureType, kind: IndexKind) -> Result<Bytes, NoMemory>
-    ensures { IfOk result (λ prefix. prefix ≡ key.prefix_of of.now kind) }
+    ensures prefix { IfOk result (λ prefix. prefix ≡ key.prefix_of of.now kind) }
+    ensures short { IfOk result (λ prefix. length prefix ≤ 15) }
 {
     let mut prefix = Bytes::new(alloc);
     put_number(&mut prefix, of.number())?;
@@ -261,38 +275,40 @@ fn index_number(kind: IndexKind) -> u8
 }
 
 #[tactic(auto, unfolding(gm_keys::specs::Key::code_front))]
-fn code_front(alloc: Global, prefix: &[u8], shard: u8, code: u64) -> Result<Bytes, NoMemory>
-    ensures { IfOk result (λ front. front ≡ key.code_front prefix.now shard code) }
+fn code_front(alloc: Global, front: &Front<'_>, code: u64) -> Result<Bytes, NoMemory>
+    ensures { IfOk result (λ bytes. bytes
+        ≡ key.code_front front.now.prefix.now front.now.shard code) }
 {
-    let mut front = Bytes::from_slice(alloc, prefix)?;
-    front.append(&[shard])?;
-    put_code(&mut front, code)?;
-    Ok(front)
+    let mut bytes = Bytes::from_slice(alloc, front.prefix)?;
+    bytes.append(&[front.shard])?;
+    put_code(&mut bytes, code)?;
+    Ok(bytes)
 }
 
 #[tactic(auto, unfolding(gm_keys::specs::Key::bin_front))]
-fn bin_front(alloc: Global, prefix: &[u8], shard: u8, number: u16) -> Result<Bytes, NoMemory>
-    ensures { IfOk result (λ front. front ≡ key.bin_front prefix.now shard number) }
+fn bin_front(alloc: Global, front: &Front<'_>, number: u16) -> Result<Bytes, NoMemory>
+    ensures { IfOk result (λ bytes. bytes
+        ≡ key.bin_front front.now.prefix.now front.now.shard number) }
 {
-    let mut front = Bytes::from_slice(alloc, prefix)?;
-    front.append(&[shard])?;
-    put_number(&mut front, number)?;
-    Ok(front)
+    let mut bytes = Bytes::from_slice(alloc, front.prefix)?;
+    bytes.append(&[front.shard])?;
+    put_number(&mut bytes, number)?;
+    Ok(bytes)
 }
 
 #[tactic(auto, using(crate::proofs::Fronts::bin_code_is))]
 fn bin_code_front(
     alloc: Global,
-    prefix: &[u8],
-    shard: u8,
+    front: &Front<'_>,
     number: u16,
     code: u64,
 ) -> Result<Bytes, NoMemory>
-    ensures { IfOk result (λ front. front ≡ key.bin_code_front prefix.now shard number code) }
+    ensures { IfOk result (λ bytes. bytes
+        ≡ key.bin_code_front front.now.prefix.now front.now.shard number code) }
 {
-    let mut front = bin_front(alloc, prefix, shard, number)?;
-    put_code(&mut front, code)?;
-    Ok(front)
+    let mut bytes = bin_front(alloc, front, number)?;
+    put_code(&mut bytes, code)?;
+    Ok(bytes)
 }
 
 fn put_number(front: &mut Bytes, number: u16) -> Result<(), NoMemory>
@@ -321,4 +337,13 @@ fn code_bytes(code: u64) -> [u8; 8]
     let mut eight = [0u8; 8];
     BigEndian::write_u64(&mut eight, code);
     eight
+}
+
+// The bytes of a bin's number and of a code in it.
+fn in_bin_bytes(number: u16, code: u64) -> [u8; 10]
+    ensures { result ≡ big_bytes 2 number ++ big_bytes 8 code }
+{
+    let [a, b] = number_bytes(number);
+    let [c, d, e, f, g, h, i, j] = code_bytes(code);
+    [a, b, c, d, e, f, g, h, i, j]
 }
