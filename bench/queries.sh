@@ -11,24 +11,7 @@ queries=${2:-1000}
 
 # made KIND: a script of the puts and then queries of this kind, the same at each call
 made() {
-    awk -v features="$features" -v queries="$queries" -v kind="$1" '
-        function place() { x = rand() * 350 - 175; y = rand() * 170 - 85 }
-        BEGIN {
-            srand(7)
-            print "create bench name:String:index=true,n:Integer,dtg:Date,*geom:Point"
-            for (i = 1; i <= features; i++)
-                printf "put bench f%d,n%d,%d,2020-%02d-%02dT%02d:00:00Z,POINT (%.7f %.7f)\n", i,
-                    rand() * 1000, rand() * 1000, 1 + rand() * 12, 1 + rand() * 28, rand() * 24,
-                    rand() * 360 - 180, rand() * 180 - 90
-            for (i = 1; i <= queries; i++) {
-                place()
-                if (kind == "boxes") printf "count bench BBOX(geom,%.7f,%.7f,%.7f,%.7f)\n", x, y, x + 5, y + 5
-                if (kind == "rows") printf "query bench BBOX(geom,%.7f,%.7f,%.7f,%.7f)\n", x, y, x + 5, y + 5
-                if (kind == "weeks") printf "count bench BBOX(geom,%.7f,%.7f,%.7f,%.7f) AND dtg DURING 2020-03-01T00:00:00Z/2020-03-08T00:00:00Z\n", x, y, x + 5, y + 5
-                if (kind == "attribute") printf "count bench name = '"'n%d'"'\n", rand() * 1000
-                if (kind == "identifier") printf "count bench IN ('"'f%d'"')\n", 1 + rand() * features
-            }
-        }'
+    awk -v features="$features" -v queries="$queries" -v kind="$1" -f "$top/bench/questions.awk"
 }
 
 for kind in puts boxes rows weeks attribute identifier; do
