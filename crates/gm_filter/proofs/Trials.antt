@@ -19,7 +19,7 @@ use Rattle.gm_filter.specs.Suits.{suits, all_suit, Suits, SuitOneType, passes_ki
 use Rattle.gm_filter.specs.Tree.{Tree, Trees, include, exclude, negated, all, any, compare, between, like, one_of, is_null, ids, bbox, intersects, disjoint, within, during, before, after, tequals, no_trees, tree_and, members_of}
 use Rattle.gm_filter.specs.Trial.{MayTry, MayTryAll, IsKeptValue, IsRisingBox, HasPlace}
 
-none_is : {A : Type 0} (o : Option A) → is_none o ≡ true → o ≡ None
+pub none_is : {A : Type 0} (o : Option A) → is_none o ≡ true → o ≡ None
 none_is None h = refl
 none_is (Some x) h = absurd (true≢false (sym h))
 
@@ -50,10 +50,10 @@ sound_at (k ∷ ks) [] a h = absurd (true≢false (sym h))
 sound_at (k ∷ ks) (v ∷ vs) zero h = (and_parts (is_of_kind k v) _ (and_parts (value_fits k v) _ h).0).1
 sound_at (k ∷ ks) (v ∷ vs) (suc a) h = sound_at ks vs a (and_parts (value_fits k v) _ h).1
 
-le_from : (m n : ℤ) → int_le m n ≡ true → m ≤ℤ n
+pub le_from : (m n : ℤ) → int_le m n ≡ true → m ≤ℤ n
 le_from m n h = omega (arith, ints, h)
 
-rising : (b : Box2) → is_box b ≡ true → IsRisingBox b
+pub rising : (b : Box2) → is_box b ≡ true → IsRisingBox b
 rising b h = let parts = and_parts (int_le b.low.x b.high.x) _ (and_parts (is_in_world b.low && is_in_world b.high) _ h).1 in (le_from b.low.x b.high.x parts.0, le_from b.low.y b.high.y parts.1)
 
 module _ (s : Specification) (f : Feature) (fits : Fits s f) where

@@ -7,6 +7,8 @@ use Rattle.gm_feature.specs.declared.value.Value.{Value}
 use Rattle.gm_feature.specs.declared.value.Value.TheVariants as value
 use Rattle.gm_feature.specs.declared.feature.Feature.{Feature}
 use Rattle.gm_feature.specs.Feature.{value_at}
+use Rattle.gm_feature.specs.declared.stored.Stored.{Stored}
+use Rattle.gm_feature.specs.Stored.{IsStored}
 use Rattle.gm_filter.specs.Tree.{Tree, Trees, include, exclude, negated, all, any, compare, between, like, one_of, is_null, ids, bbox, intersects, disjoint, within, during, before, after, tequals, no_trees, tree_and}
 
 -- the value is no geometry, or one that is kept
@@ -48,3 +50,8 @@ abbrev mutual
   pub MayTryAll : Feature → Trees → Type 0
   MayTryAll f no_trees = Unit {0}
   MayTryAll f (tree_and t ts) = MayTry f t × MayTryAll f ts
+
+-- the bytes are those of a feature that fits the type
+pub record HasFeature (s : Stored) : Type 0 where
+  pub feature : Feature
+  pub same : IsStored s feature

@@ -41,7 +41,7 @@ pub(crate) fn is_one_of(value: &Value, literals: &[Literal]) -> bool
         .any(|literal| compares(Op::Eq, value, literal))
 }
 
-fn passes(op: Op, order: Ordering) -> bool
+pub(crate) fn passes(op: Op, order: Ordering) -> bool
     ensures { result ≡ spec.passes op order }
 {
     match op {
@@ -54,7 +54,7 @@ fn passes(op: Op, order: Ordering) -> bool
     }
 }
 
-fn passes_unordered(op: Op, same: bool) -> bool
+pub(crate) fn passes_unordered(op: Op, same: bool) -> bool
     ensures { result ≡ spec.passes_unordered op same }
 {
     match op {

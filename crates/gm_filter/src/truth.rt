@@ -12,7 +12,7 @@ ghost use Rattle.gm_filter.specs.Truth.{is_true, are_all_true, is_any_true};
 
 use crate::comparison::{compares, compares_date, is_one_of};
 use crate::{Filter, Op, TextList, like};
-use gm_base::{FeatureId, Text};
+use gm_base::Text;
 use gm_feature::{Feature, Value};
 use gm_geom::{Box2, Geometry};
 use gm_shapes::{intersects, meets_box};
@@ -45,7 +45,7 @@ fn is_passed(filter: &Filter, feature: &Feature) -> bool
         Filter::Like(at, pattern) => is_text_like(pattern, feature.value(*at)),
         Filter::OneOf(at, literals) => is_one_of(feature.value(*at), literals.as_slice()),
         Filter::IsNull(at) => is_null(feature.value(*at)),
-        Filter::Ids(texts) => is_among(&feature.id, texts),
+        Filter::Ids(texts) => is_among(feature.id.as_bytes(), texts),
         Filter::Bbox(at, area) => meets_area(feature.value(*at), *area),
         Filter::Intersects(at, geometry) => meets(feature.value(*at), geometry),
         Filter::Disjoint(at, geometry) => is_apart(feature.value(*at), geometry),
@@ -101,13 +101,10 @@ fn is_text_like(pattern: &Text, value: &Value) -> bool
     }
 }
 
-fn is_among(id: &FeatureId, texts: &TextList) -> bool
+pub(crate) fn is_among(id: &[u8], texts: &TextList) -> bool
     ensures { result ≡ list_any (bytes_eq id.now) texts.now }
 {
-    texts
-        .as_slice()
-        .iter()
-        .any(|text| id.as_bytes() == text.as_bytes())
+    texts.as_slice().iter().any(|text| id == text.as_bytes())
 }
 
 fn meets_area(value: &Value, area: Box2) -> bool

@@ -1,0 +1,77 @@
+-- What is told of values that are seen in place.
+use Rattle.std.proofs.Common.{◌≡◌, ◌↔◌, inl, inr, Bool, true, false, ◌≤ℤ◌, List, [], ◌∷◌, ℕ, refl, sym, ◌∙◌, arith, true≢false}
+use Rattle.std.proofs.lemmas.Bool.{and_parts, and_from, cases_Bool}
+use Rattle.std.proofs.lemmas.Int.{ints}
+use Rattle.std.proofs.lemmas.Str.{IsUtf8-from_is_utf8}
+use Rattle.std.specs.Prelude.{int_le, ℤ}
+use Rattle.std.specs.Str.{IsUtf8, is_utf8}
+use Rattle.gm_geom.specs.declared.place.Point.{Point}
+use Rattle.gm_geom.specs.declared.place.Box2.{Box2}
+use Rattle.gm_geom.specs.declared.geometry.Geometry.{Geometry}
+use Rattle.gm_geom.specs.declared.geometry.Geometry.TheVariants as geo
+use Rattle.gm_geom.specs.Extent.{IsInBox}
+use Rattle.gm_shapes.specs.Segment.{lone_box, do_overlap, reaches}
+use Rattle.gm_shapes.specs.Meeting.{do_intersect, box_area}
+use Rattle.gm_feature.specs.declared.value.Value.TheVariants as value
+use Rattle.gm_feature.specs.Stored.{is_point}
+use Rattle.gm_feature.specs.Value.{is_sound, has_text_form}
+use Rattle.gm_filter.specs.declared.filter.Literal.{Literal}
+use Rattle.gm_filter.specs.Truth.{is_one_of, is_within}
+use Rattle.gm_filter.proofs.Trials.{le_from}
+
+-- ---- answers that are one
+
+pub same_answer : (a b : Bool) → (a ≡ true → b ≡ true) → (b ≡ true → a ≡ true) → a ≡ b
+same_answer true b f g = sym (f refl)
+same_answer false true f g = g refl
+same_answer false false f g = refl
+
+-- a test that fails settles one that only it lets pass
+pub fails_with : (t u seen : Bool) → (u ≡ true → t ≡ true) → seen ≡ t → seen ≡ false → false ≡ u
+fails_with t true seen only e f = sym f ∙ e ∙ only refl
+fails_with t false seen only e f = refl
+
+-- ---- a point in a closed box
+
+le_test : (m n : ℤ) → m ≤ℤ n → int_le m n ≡ true
+le_test m n h = elim (cases_Bool (int_le m n)) [
+  | inl passed ↦ passed
+  | inr failed ↦ absurd (omega (arith, ints, h, failed))
+]
+
+in_where_overlapping : (p : Point) (b : Box2) → do_overlap (lone_box p) b ≡ true → IsInBox b p
+in_where_overlapping p b h =
+    let parts = and_parts (reaches (lone_box p) b) (reaches b (lone_box p)) h in
+    let high = and_parts (int_le p.x b.high.x) (int_le p.y b.high.y) parts.0 in
+    let low = and_parts (int_le b.low.x p.x) (int_le b.low.y p.y) parts.1 in
+    record { left = le_from _ _ low.0; right = le_from _ _ high.0; below = le_from _ _ low.1; above = le_from _ _ high.1 }
+
+overlapping_where_in : (p : Point) (b : Box2) → IsInBox b p → do_overlap (lone_box p) b ≡ true
+overlapping_where_in p b h =
+    and_from (reaches (lone_box p) b) (reaches b (lone_box p))
+    (and_from _ _ (le_test p.x b.high.x h.right) (le_test p.y b.high.y h.above))
+    (and_from _ _ (le_test b.low.x p.x h.left) (le_test b.low.y p.y h.below))
+
+pub point_meets : (p : Point) (b : Box2) → ((do_intersect (geo.Point p) (box_area b) ≡ true) ↔ IsInBox b p) → do_overlap (lone_box p) b ≡ do_intersect (geo.Point p) (box_area b)
+point_meets p b meets = same_answer _ _ (λ over. meets.1 (in_where_overlapping p b over)) (λ met. overlapping_where_in p b (meets.0 met))
+
+-- ---- what is no point lies within nothing
+
+pub no_point_within : (g h : Geometry) → is_point g ≡ false → is_within (value.Geo g) h ≡ false
+no_point_within (geo.Point p) h many = absurd (true≢false many)
+no_point_within (geo.Line ps) h many = refl
+no_point_within (geo.Area rings) h many = refl
+no_point_within (geo.ManyPoints ps) h many = refl
+no_point_within (geo.ManyLines ls) h many = refl
+no_point_within (geo.ManyAreas areas) h many = refl
+
+-- ---- no geometry is one of some literals
+
+pub no_geometry_among : (g : Geometry) (literals : List Literal) → is_one_of (value.Geo g) literals ≡ false
+no_geometry_among g [] = refl
+no_geometry_among g (l ∷ literals) = no_geometry_among g literals
+
+-- ---- a text that is sound is UTF-8
+
+pub sound_text : (bytes : List ℕ) → is_sound (value.Text bytes) ≡ true → IsUtf8 bytes
+sound_text bytes h = IsUtf8-from_is_utf8 bytes (and_parts (is_utf8 bytes) (has_text_form bytes) h).0
