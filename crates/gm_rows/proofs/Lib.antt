@@ -9,3 +9,4 @@ mod RowLaws
 mod RowsFit
 mod Slices
 mod TextFields
+mod Unquoted

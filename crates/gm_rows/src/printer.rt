@@ -1,15 +1,18 @@
 // Rows printed.
-ghost use Rattle.std.specs.Prelude.{◌≡◌, ◌∷◌, ◌++◌, map, Ok, IfOk};
+ghost use Rattle.std.specs.Prelude.{◌≡◌, ◌∷◌, ◌++◌, map, Ok, IfOk, OnOk};
+ghost use Rattle.std.specs.Fmt.{signed_decimal};
 ghost use Rattle.std.specs.String.{string_bytes};
 ghost use Rattle.gm_feature.specs.Feature.{Fits};
 ghost use Rattle.gm_rows.specs.Lines.{AreOnOneLine};
 ghost use Rattle.gm_rows.specs.Reading.{row_of};
 ghost use Rattle.gm_rows.specs.Printing.{begins_with_mark, has_marked, is_quoted, doubled, printed, field_of, further, row_text, truth_text};
+ghost use Rattle.gm_wkt.specs.Printing as wkt;
 
 use crate::printed_rows_are_read;
 use gm_base::{NoMemory, Text};
 use gm_calendar::print_instant;
 use gm_feature::{Feature, Value};
+use gm_geom::Geometry;
 use gm_types::FeatureType;
 use gm_wkt::print;
 use itoa::Buffer;
@@ -59,7 +62,7 @@ fn push_values(alloc: Global, row: &mut String, values: &[Value]) -> Result<(), 
     Ok(())
 }
 
-fn truth_text(truth: bool) -> &'static str
+pub(crate) fn truth_text(truth: bool) -> &'static str
     ensures { result.now ≡ truth_text truth }
 {
     if truth { "true" } else { "false" }
@@ -72,21 +75,44 @@ fn push_value(alloc: Global, row: &mut String, value: &Value) -> Result<(), NoMe
     match value {
         Value::Null => push_field(row, ""),
         Value::Text(text) => push_field(row, text.as_str()),
-        Value::Integer(number) => push_field(row, Buffer::new().format(*number)),
-        Value::Long(number) => push_field(row, Buffer::new().format(*number)),
+        Value::Integer(number) => push_integer(row, *number),
+        Value::Long(number) => push_long(row, *number),
         Value::Boolean(truth) => push_field(row, truth_text(*truth)),
         Value::Date(at) => {
             let text = print_instant(alloc, *at)?;
             push_field(row, text.as_str())
         }
-        Value::Geo(geometry) => {
-            let text = print(alloc, geometry)?;
-            push_field(row, text.as_str())
-        }
+        Value::Geo(geometry) => push_geometry(alloc, row, geometry),
     }
 }
 
-fn push_field(row: &mut String, field: &str) -> Result<(), NoMemory>
+pub(crate) fn push_integer(row: &mut String, number: i32) -> Result<(), NoMemory>
+    ensures { OnOk result (string_bytes row.new
+        ≡ string_bytes row.old ++ printed (signed_decimal number)) }
+{
+    push_field(row, Buffer::new().format(number))
+}
+
+pub(crate) fn push_long(row: &mut String, number: i64) -> Result<(), NoMemory>
+    ensures { OnOk result (string_bytes row.new
+        ≡ string_bytes row.old ++ printed (signed_decimal number)) }
+{
+    push_field(row, Buffer::new().format(number))
+}
+
+pub(crate) fn push_geometry(
+    alloc: Global,
+    row: &mut String,
+    geometry: &Geometry,
+) -> Result<(), NoMemory>
+    ensures { OnOk result (string_bytes row.new
+        ≡ string_bytes row.old ++ printed (wkt.printed geometry.now)) }
+{
+    let text = print(alloc, geometry)?;
+    push_field(row, text.as_str())
+}
+
+pub(crate) fn push_field(row: &mut String, field: &str) -> Result<(), NoMemory>
     ensures { IfOk result (λ _. string_bytes row.new ≡ string_bytes row.old ++ printed field.now) }
 {
     if needs_quotes(field.as_bytes()) {

@@ -1,3 +1,5 @@
+pub mod Apart
 pub mod Holding
-pub mod Values
+pub mod Reading
+pub mod Testing
 pub mod Visits

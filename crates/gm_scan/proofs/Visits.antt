@@ -1,21 +1,24 @@
 -- What visitors have after all rows.
-use Rattle.std.proofs.Common.{◌≡◌, ℕ, Bool, true, false, ◌-◌, ◌<◌, ◌≤◌, ◌^◌, List, [], ◌∷◌, ◌++◌, length, take, cond, refl, sym, ap, subst, ◌∙◌, arith, append_assoc, length-append}
-use Rattle.std.specs.Prelude.{Result, Ok, ⊤, All, slice_range}
+use Rattle.std.proofs.Common.{◌≡◌, ℕ, Bool, true, false, ◌<◌, ◌≤◌, ◌^◌, List, [], ◌∷◌, ◌++◌, length, map, cond, refl, sym, ap, subst, ◌∙◌, arith, append_assoc}
+use Rattle.std.specs.Prelude.{Result, Ok, Err, All, OnOk}
 use Rattle.gm_base.specs.Counter.{capped_sum}
-use Rattle.gm_base.specs.Spans.{Span}
-use Rattle.gm_base.specs.declared.NoMemory.{NoMemory}
 use Rattle.gm_table.specs.Sorted.{Rows}
-use Rattle.gm_table.specs.Spans.{rows_in}
-use Rattle.gm_table.specs.Visit.{Handed, Stops}
+use Rattle.gm_table.specs.Visit.{Handed}
 use Rattle.gm_types.specs.Specification.{Specification}
 use Rattle.gm_feature.specs.declared.feature.Feature.{Feature}
+use Rattle.gm_feature.specs.Spelling.{feature_bytes}
 use Rattle.gm_filter.specs.Tree.{Tree}
 use Rattle.gm_filter.specs.Truth.{is_true}
 use Rattle.gm_scan.specs.declared.counted.Counted.{Counted}
 use Rattle.gm_scan.specs.declared.found.Found.{Found}
+use Rattle.gm_scan.specs.declared.kept.Keeping.{Keeping}
+use Rattle.gm_scan.specs.declared.kept.Kept.{Kept}
 use Rattle.gm_scan.specs.Counted as counting
 use Rattle.gm_scan.specs.Found.{Takes, takes_row}
+use Rattle.gm_scan.specs.FoundRows.{FoundRow}
 use Rattle.gm_scan.specs.Held.{HasFeature, Hold, matching}
+use Rattle.gm_scan.specs.Kept as keeping_rows
+use Rattle.gm_scan.specs.Kept.{kept_bytes, kept_of}
 use Rattle.gm_scan.specs.Trial.{type_of, filter_of}
 use Rattle.gm_scan.proofs.Holding.{matching_cons}
 
@@ -65,38 +68,67 @@ counts (row ∷ rows) (f ∷ held) before after fits hold handed =
     let now : after.matched ≡ capped_sum mid.matched (length (matching t held)) = rest ∙ ap (λ trial. capped_sum mid.matched (length (matching (filter_of trial) held))) taken.same in
     raised_more (is_true f t) before.matched mid.matched after.matched f (matching t held) here now
 
--- ---- all of a list
-all_taken : {A : Type 0} (xs : List A) → take (length xs) xs ≡ xs
-all_taken [] = refl
-all_taken (x ∷ xs) = ap (λ ys. x ∷ ys) (all_taken xs)
+pub kept_not : (keeping : Keeping) (t : Tree) (f : Feature) (rows : List FoundRow) (b : Bool) → b ≡ is_true f t → b ≡ false
+    → rows ≡ rows ++ map (kept_of keeping) (matching t (f ∷ []))
+kept_not keeping t f rows b is fails = append_none rows ∙ ap (λ c. rows ++ map (kept_of keeping) (cond c (f ∷ []) [])) (sym fails ∙ is)
 
-whole : {A : Type 0} (xs : List A) (n : ℕ) → n ≡ length xs → slice_range xs 0 n ≡ xs
-whole xs n is = let all : n - 0 ≡ length xs = omega (arith, is) in ap (λ (k : ℕ). take k xs) all ∙ all_taken xs
+pub kept_one : (keeping : Keeping) (t : Tree) (f : Feature) (rows after : List FoundRow) (id content bytes : List ℕ) (b : Bool) → b ≡ is_true f t → b ≡ true
+    → id ≡ f.id → content ≡ kept_bytes keeping bytes → bytes ≡ feature_bytes f → after ≡ rows ++ (id, content) ∷ []
+    → after ≡ rows ++ map (kept_of keeping) (matching t (f ∷ []))
+kept_one keeping t f rows after id content bytes b is holds named kept same pushed =
+    let whole = kept ∙ ap (kept_bytes keeping) same in
+    pushed ∙ (λ i. rows ++ (named i, whole i) ∷ []) ∙ ap (λ c. rows ++ map (kept_of keeping) (cond c (f ∷ []) [])) (sym holds ∙ is)
 
--- ---- a visitor that refused a row was handed no more than there are
-pub handed_few : {V : Type 0} (takes : V → List ℕ → List ℕ → Result ⊤ NoMemory → V → Type 0) (before : V) (rows : Rows) (fault : NoMemory) (after : V) (handed : ℕ)
-    → Stops takes before rows fault after handed → handed ≤ length rows
-handed_few takes before rows fault after handed stops =
-    omega (arith, stops.count, ap length stops.parts, length-append stops.front (stops.refused ∷ stops.rest))
+kept_cons : (keeping : Keeping) (t : Tree) (f : Feature) (fs : List Feature)
+    → map (kept_of keeping) (matching t (f ∷ [])) ++ map (kept_of keeping) (matching t fs) ≡ map (kept_of keeping) (matching t (f ∷ fs))
+kept_cons keeping t f fs =
+    elim (is_true f t) as (λ b. map (kept_of keeping) (cond b (f ∷ []) []) ++ map (kept_of keeping) (matching t fs) ≡ map (kept_of keeping) (cond b (f ∷ matching t fs) (matching t fs))) [
+      | true ↦ refl
+      | false ↦ refl
+    ]
 
--- ---- the rows of all ranges
-pub admits_all : (ranges : List Span) (n : ℕ) (rows : Rows) (t s : Specification) → n ≡ length ranges → s ≡ t
-    → All (λ row. HasFeature t row.1) (rows_in ranges rows) → All (λ row. HasFeature s row.1) (rows_in (slice_range ranges 0 n) rows)
-admits_all ranges n rows t s is same each =
-    subst (λ some. All (λ row. HasFeature s row.1) (rows_in some rows)) (sym (whole ranges n is))
-    (subst (λ u. All (λ row. HasFeature u row.1) (rows_in ranges rows)) (sym same) each)
+pub gathers : (rows : Rows) (held : List Feature) (before after : Kept) → Hold (type_of before.trial.now) rows held → Handed keeping_rows.takes_row before rows after
+    → after.rows ≡ before.rows ++ map (kept_of before.keeping) (matching (filter_of before.trial.now) held)
+gathers [] [] before after hold handed = ap (λ (k : Kept). k.rows) handed ∙ append_none before.rows
+gathers [] (f ∷ held) before after hold handed = absurd hold
+gathers (row ∷ rows) [] before after hold handed = absurd hold
+gathers (row ∷ rows) (f ∷ held) before after hold handed =
+    let mid = handed.0 in
+    let taken : keeping_rows.Takes before row.1 (Ok tt) mid = handed.1 in
+    let t = filter_of before.trial.now in
+    let view = kept_of before.keeping in
+    let here : mid.rows ≡ before.rows ++ map view (matching t (f ∷ [])) = taken.keeps f hold.0 in
+    let rest = gathers rows held mid after (subst (λ trial. Hold (type_of trial) rows held) (sym taken.same) hold.1) handed.2 in
+    rest
+    ∙ ap (λ trial. mid.rows ++ map (kept_of mid.keeping) (matching (filter_of trial) held)) taken.same
+    ∙ ap (λ way. mid.rows ++ map (kept_of way) (matching t held)) taken.way
+    ∙ ap (λ rs. rs ++ map view (matching t held)) here
+    ∙ append_assoc before.rows (map view (matching t (f ∷ []))) (map view (matching t held))
+    ∙ ap (λ rs. before.rows ++ rs) (kept_cons before.keeping t f held)
 
-pub rows_all : (ranges : List Span) (n : ℕ) (rows : Rows) → n ≡ length ranges → rows_in (slice_range ranges 0 n) rows ≡ rows_in ranges rows
-rows_all ranges n rows is = ap (λ some. rows_in some rows) (whole ranges n is)
+-- ---- what they have in the end
+pub on_ok : {X E P Q : Type 0} (r : Result X E) → (P → Q) → OnOk r P → OnOk r Q
+on_ok (Ok x) f p = f p
+on_ok (Err e) f p = tt
 
-pub found_all : (ranges : List Span) (n : ℕ) (rows : Rows) (held : List Feature) (before after : Found) (t : Specification) (filter : Tree)
-    → n ≡ length ranges → type_of before.trial.now ≡ t → filter_of before.trial.now ≡ filter → before.features ≡ []
-    → Hold t (rows_in ranges rows) held → Handed takes_row before (rows_in (slice_range ranges 0 n) rows) after
+pub admitted : (rows : Rows) (t s : Specification) → s ≡ t → All (λ row. HasFeature t row.1) rows → All (λ row. HasFeature s row.1) rows
+admitted rows t s same each = subst (λ u. All (λ row. HasFeature u row.1) rows) (sym same) each
+
+pub found_all : (rows : Rows) (held : List Feature) (before after : Found) (t : Specification) (filter : Tree)
+    → type_of before.trial.now ≡ t → filter_of before.trial.now ≡ filter → before.features ≡ []
+    → Hold t rows held → Handed takes_row before rows after
     → after.features ≡ matching filter held
-found_all ranges n rows held before after t filter is typed filtered none hold handed =
-    collects (rows_in ranges rows) held before after (subst (λ u. Hold u (rows_in ranges rows) held) (sym typed) hold)
-    (subst (λ read. Handed takes_row before read after) (rows_all ranges n rows is) handed)
+found_all rows held before after t filter typed filtered none hold handed =
+    collects rows held before after (subst (λ u. Hold u rows held) (sym typed) hold) handed
     ∙ (λ i. none i ++ matching (filtered i) held)
+
+pub kept_all : (rows : Rows) (held : List Feature) (before after : Kept) (t : Specification) (filter : Tree) (keeping : Keeping) (first : List FoundRow)
+    → type_of before.trial.now ≡ t → filter_of before.trial.now ≡ filter → before.keeping ≡ keeping → before.rows ≡ first
+    → Hold t rows held → Handed keeping_rows.takes_row before rows after
+    → after.rows ≡ first ++ map (kept_of keeping) (matching filter held)
+kept_all rows held before after t filter keeping first typed filtered way start hold handed =
+    gathers rows held before after (subst (λ u. Hold u rows held) (sym typed) hold) handed
+    ∙ (λ i. start i ++ map (kept_of (way i)) (matching (filtered i) held))
 
 held_many : (t : Specification) (rows : Rows) (held : List Feature) → Hold t rows held → length held ≡ length rows
 held_many t [] [] hold = refl
@@ -112,13 +144,12 @@ matching_few filter (f ∷ held) =
       | false ↦ omega (arith, matching_few filter held)
     ]
 
-pub counted_all : (ranges : List Span) (n : ℕ) (rows : Rows) (held : List Feature) (before after : Counted) (t : Specification) (filter : Tree)
-    → n ≡ length ranges → type_of before.trial.now ≡ t → filter_of before.trial.now ≡ filter → before.matched ≡ 0
-    → length (rows_in ranges rows) ≤ length rows → length rows < 2 ^ 64
-    → Hold t (rows_in ranges rows) held → Handed counting.takes_row before (rows_in (slice_range ranges 0 n) rows) after
+pub counted_all : (rows all : Rows) (held : List Feature) (before after : Counted) (t : Specification) (filter : Tree)
+    → type_of before.trial.now ≡ t → filter_of before.trial.now ≡ filter → before.matched ≡ 0
+    → length rows ≤ length all → length all < 2 ^ 64
+    → Hold t rows held → Handed counting.takes_row before rows after
     → after.matched ≡ length (matching filter held)
-counted_all ranges n rows held before after t filter is typed filtered none few fits hold handed =
-    let all = counts (rows_in ranges rows) held before after (omega (arith, none)) (subst (λ u. Hold u (rows_in ranges rows) held) (sym typed) hold)
-    (subst (λ read. Handed counting.takes_row before read after) (rows_all ranges n rows is) handed) in
-    let now : after.matched ≡ capped_sum 0 (length (matching filter held)) = all ∙ (λ i. capped_sum (none i) (length (matching (filtered i) held))) in
-    omega (arith, now, matching_few filter held, held_many t (rows_in ranges rows) held hold, few, fits)
+counted_all rows all held before after t filter typed filtered none few fits hold handed =
+    let raised = counts rows held before after (omega (arith, none)) (subst (λ u. Hold u rows held) (sym typed) hold) handed in
+    let now : after.matched ≡ capped_sum 0 (length (matching filter held)) = raised ∙ (λ i. capped_sum (none i) (length (matching (filtered i) held))) in
+    omega (arith, now, matching_few filter held, held_many t rows held hold, few, fits)

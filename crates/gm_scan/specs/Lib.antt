@@ -1,6 +1,8 @@
 pub mod Counted
 pub mod Found
+pub mod FoundRows
 pub mod Held
+pub mod Kept
 pub mod Ranges
 pub mod Test
 pub mod Trial

@@ -10,8 +10,8 @@ layer (open_test.Plain f) = tree f.now
 layer (open_test.Not t) = negated t.value
 layer (open_test.And ts) = all (trees_of ts.items)
 layer (open_test.Or ts) = any (trees_of ts.items)
-layer (open_test.Intersects a g) = intersects a g
-layer (open_test.Disjoint a g) = disjoint a g
+layer (open_test.Intersects a g) = intersects a g.prepared
+layer (open_test.Disjoint a g) = disjoint a g.prepared
 layer (open_test.Within a g) = within a g.prepared
 
 abbrev pub tree_of : Test → Tree

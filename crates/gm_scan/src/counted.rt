@@ -41,7 +41,7 @@ impl<'a, 't> Visit for Counted<'a, 't> {
         subst (λ trial. HasFeature (type_of trial) bytes) (sym takes.same) has };
 
     fn row(&mut self, alloc: Global, _key: &[u8], bytes: &[u8]) -> Result<(), NoMemory> {
-        if self.trial.passing(alloc, bytes)?.is_some() {
+        if self.trial.passes(alloc, bytes)? {
             self.matched = self.matched.saturating_add(1);
         }
         Ok(())

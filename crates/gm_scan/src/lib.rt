@@ -3,11 +3,15 @@
 
 mod counted;
 mod found;
+mod found_rows;
+mod kept;
 mod laws;
 mod polygons;
 mod scan;
+mod target;
 mod test;
 mod trial;
 
+pub use found_rows::FoundRows;
 pub use laws::{ranges_apart_have_few_rows, rows_hold_features};
-pub use scan::{count_one, scan_one};
+pub use scan::{count_one, scan_ids, scan_one, scan_rows};

@@ -1,20 +1,17 @@
 // A filter whose geometries are prepared.
-ghost use Rattle.std.specs.Prelude.{◌≡◌, true, is_some, IfOk, map};
-ghost use Rattle.gm_types.specs.Specification.{kind_at};
-ghost use Rattle.gm_feature.specs.Feature.{Fits, value_at};
+ghost use Rattle.std.specs.Prelude.{◌≡◌, true, IfOk, map};
+ghost use Rattle.gm_feature.specs.declared.feature.Feature.{Feature};
+ghost use Rattle.gm_feature.specs.Stored.{IsStored};
 ghost use Rattle.gm_filter.specs.Suits.{Suits, all_suit};
 ghost use Rattle.gm_filter.specs.Tree.{tree, trees_of};
-ghost use Rattle.gm_filter.specs.Trial.{IsKeptValue};
-ghost use Rattle.gm_filter.specs.Truth as spec;
 ghost use Rattle.gm_filter.specs.Truth.{is_true, are_all_true, is_any_true};
 ghost use Rattle.gm_scan.specs.Test.{tree_of};
 
 use crate::polygons::Polygons;
+use crate::target::Target;
 use gm_base::NoMemory;
-use gm_feature::{Feature, Value, fitting_features_have_values};
-use gm_filter::{Filter, holds};
-use gm_prepared::Prepared;
-use gm_shapes::meeting_is_symmetric;
+use gm_feature::Stored;
+use gm_filter::{Filter, holds_stored};
 use gm_types::FeatureType;
 use std::alloc::Global;
 
@@ -31,9 +28,9 @@ pub(crate) enum Test<'a> {
 
     Or(Vec<Test<'a>>),
 
-    Intersects(u16, Prepared),
+    Intersects(u16, Target),
 
-    Disjoint(u16, Prepared),
+    Disjoint(u16, Target),
 
     Within(u16, Polygons<'a>),
 }
@@ -53,11 +50,9 @@ pub(crate) fn test_of<'a>(
         Filter::And(members) => Ok(Test::And(tests_of(alloc, of, members)?)),
         Filter::Or(members) => Ok(Test::Or(tests_of(alloc, of, members)?)),
         Filter::Intersects(at, geometry) => {
-            Ok(Test::Intersects(*at, Prepared::of(alloc, geometry)?))
+            Ok(Test::Intersects(*at, Target::of(alloc, geometry)?))
         }
-        Filter::Disjoint(at, geometry) => {
-            Ok(Test::Disjoint(*at, Prepared::of(alloc, geometry)?))
-        }
+        Filter::Disjoint(at, geometry) => { Ok(Test::Disjoint(*at, Target::of(alloc, geometry)?)) }
         Filter::Within(at, area) => Ok(Test::Within(*at, Polygons::of(alloc, area)?)),
         _ => Ok(Test::Plain(filter)),
     }
@@ -79,83 +74,52 @@ fn tests_of<'a>(
     Ok(tests)
 }
 
-/// Whether a feature that fits the type passes. It takes no memory, and its recursion is as deep as
-/// the filter.
+/// Whether a stored feature passes. Its values are read in place, and its recursion is as deep as the
+/// filter.
 #[cycle(passing)]
-pub(crate) fn passes(test: &Test<'_>, of: &FeatureType, feature: &Feature) -> bool
-    requires suits { Suits of.now (tree_of test.now) }
-    requires fits { Fits of.now feature.now }
-    ensures { result ≡ is_true feature.now (tree_of test.now) }
+pub(crate) fn passes(alloc: Global, test: &Test<'_>, stored: &Stored<'_>) -> Result<bool, NoMemory>
+    requires suits { Suits stored.now.of.now (tree_of test.now) }
+    requires stored { (f : Feature) × IsStored stored.now f }
+    ensures { (f : Feature) → IsStored stored.now f
+        → IfOk result (λ b. b ≡ is_true f (tree_of test.now)) }
 {
     match test {
-        Test::Plain(filter) => holds(filter, feature),
-        Test::Not(inner) => !passes(inner, of, feature),
-        Test::And(members) => pass_all(members, of, feature),
-        Test::Or(members) => pass_any(members, of, feature),
-        Test::Intersects(at, prepared) => meets(value_of(of, feature, *at), prepared),
-        Test::Disjoint(at, prepared) => is_apart(value_of(of, feature, *at), prepared),
-        Test::Within(at, polygons) => polygons.has_inside(value_of(of, feature, *at)),
+        Test::Plain(filter) => holds_stored(alloc, filter, stored),
+        Test::Not(inner) => Ok(!passes(alloc, inner, stored)?),
+        Test::And(members) => pass_all(alloc, members, stored),
+        Test::Or(members) => pass_any(alloc, members, stored),
+        Test::Intersects(at, target) => target.meets_at(alloc, stored, *at),
+        Test::Disjoint(at, target) => target.is_apart_at(alloc, stored, *at),
+        Test::Within(at, polygons) => Ok(polygons.has_inside_at(stored, *at)),
     }
 }
 
 #[cycle(passing)]
-fn pass_all(tests: &[Test<'_>], of: &FeatureType, feature: &Feature) -> bool
-    requires suits { all_suit of.now (trees_of (map tree_of tests.now)) ≡ true }
-    requires fits { Fits of.now feature.now }
-    ensures { result ≡ are_all_true feature.now (trees_of (map tree_of tests.now)) }
+fn pass_all(alloc: Global, tests: &[Test<'_>], stored: &Stored<'_>) -> Result<bool, NoMemory>
+    requires suits { all_suit stored.now.of.now (trees_of (map tree_of tests.now)) ≡ true }
+    requires stored { (f : Feature) × IsStored stored.now f }
+    ensures { (f : Feature) → IsStored stored.now f
+        → IfOk result (λ b. b ≡ are_all_true f (trees_of (map tree_of tests.now))) }
 {
     'members: for test in tests {
-        if !passes(test, of, feature) {
-            return false;
+        if !passes(alloc, test, stored)? {
+            return Ok(false);
         }
     }
-    true
+    Ok(true)
 }
 
 #[cycle(passing)]
-fn pass_any(tests: &[Test<'_>], of: &FeatureType, feature: &Feature) -> bool
-    requires suits { all_suit of.now (trees_of (map tree_of tests.now)) ≡ true }
-    requires fits { Fits of.now feature.now }
-    ensures { result ≡ is_any_true feature.now (trees_of (map tree_of tests.now)) }
+fn pass_any(alloc: Global, tests: &[Test<'_>], stored: &Stored<'_>) -> Result<bool, NoMemory>
+    requires suits { all_suit stored.now.of.now (trees_of (map tree_of tests.now)) ≡ true }
+    requires stored { (f : Feature) × IsStored stored.now f }
+    ensures { (f : Feature) → IsStored stored.now f
+        → IfOk result (λ b. b ≡ is_any_true f (trees_of (map tree_of tests.now))) }
 {
     'members: for test in tests {
-        if passes(test, of, feature) {
-            return true;
+        if passes(alloc, test, stored)? {
+            return Ok(true);
         }
     }
-    false
-}
-
-// The value of an attribute of the type.
-fn value_of<'a>(of: &FeatureType, feature: &'a Feature, at: u16) -> &'a Value
-    requires has { is_some (kind_at of.now at) ≡ true }
-    requires fits { Fits of.now feature.now }
-    ensures value { result.now ≡ value_at feature.now at }
-    ensures kept { IsKeptValue result.now }
-{
-    fitting_features_have_values();
-    let _ = of;
-    feature.value(at)
-}
-
-fn meets(value: &Value, other: &Prepared) -> bool
-    requires { IsKeptValue value.now }
-    ensures { result ≡ spec.meets value.now other.now }
-{
-    meeting_is_symmetric();
-    match value {
-        Value::Geo(geometry) => other.meets(geometry),
-        _ => false,
-    }
-}
-
-fn is_apart(value: &Value, other: &Prepared) -> bool
-    requires { IsKeptValue value.now }
-    ensures { result ≡ spec.is_apart value.now other.now }
-{
-    meeting_is_symmetric();
-    match value {
-        Value::Geo(geometry) => !other.meets(geometry),
-        _ => false,
-    }
+    Ok(false)
 }

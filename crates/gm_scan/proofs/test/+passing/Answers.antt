@@ -1,25 +1,22 @@
-use Rattle.std.proofs.Common.{ap, subst, ◌∙◌}
-use Rattle.gm_filter.specs.Suits.{Suits}
-use Rattle.gm_scan.specs.Test.{tree_of}
-use Rattle.gm_scan.proofs.Values.{met_kind, apart_kind, inner_kind, tree_intersects, tree_disjoint, tree_within}
+use Rattle.std.proofs.Common.{rules}
+use Rattle.gm_scan.specs.declared.test.Test.TheViews.{the_lemmas}
+use Rattle.gm_scan.proofs.Testing.{next_suits}
 use Rattle.gm_scan.proofs.test.+passing.Goals as goal
 
-pub passes-value_of-requires-clause-has : goal.passes-value_of-requires-clause-has
-passes-value_of-requires-clause-has t c =
-    let at = c.in-Intersects.at in
-    let g = c.in-Intersects.prepared in
-    met_kind c.args.of.now at g (subst (Suits c.args.of.now) (ap tree_of c.in-Intersects.is ∙ tree_intersects at g) c.requires.suits)
+pub pass_all-passes-requires : goal.pass_all-passes-requires
+pass_all-passes-requires t c = (
+  search (rules, the_lemmas),
+  (
+    next_suits c.args.stored.now.of.now c.args.tests.now c.members.test-index c.test-item.result c.members-test.true c.test-item.is c.members.invariant.suits,
+    c.requires.stored,
+  ),
+)
 
-pub passes-value_of-requires-in-Disjoint-clause-has :
-    goal.passes-value_of-requires-in-Disjoint-clause-has
-passes-value_of-requires-in-Disjoint-clause-has t c =
-    let at = c.in-Disjoint.at in
-    let g = c.in-Disjoint.prepared in
-    apart_kind c.args.of.now at g (subst (Suits c.args.of.now) (ap tree_of c.in-Disjoint.is ∙ tree_disjoint at g) c.requires.suits)
-
-pub passes-value_of-requires-in-Within-clause-has :
-    goal.passes-value_of-requires-in-Within-clause-has
-passes-value_of-requires-in-Within-clause-has t c =
-    let at = c.in-Within.at in
-    let w = c.in-Within.polygons in
-    inner_kind c.args.of.now at w.prepared (subst (Suits c.args.of.now) (ap tree_of c.in-Within.is ∙ tree_within at w) c.requires.suits)
+pub pass_any-passes-requires : goal.pass_any-passes-requires
+pass_any-passes-requires t c = (
+  search (rules, the_lemmas),
+  (
+    next_suits c.args.stored.now.of.now c.args.tests.now c.members.test-index c.test-item.result c.members-test.true c.test-item.is c.members.invariant.suits,
+    c.requires.stored,
+  ),
+)

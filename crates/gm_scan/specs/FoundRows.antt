@@ -1,0 +1,16 @@
+-- What is kept of features that are found.
+use Rattle.std.specs.Prelude.{ℕ, List, []}
+use Rattle.gm_feature.specs.declared.feature.Feature.{Feature}
+use Rattle.gm_feature.specs.Spelling.{feature_bytes}
+
+-- an identifier, and bytes
+abbrev pub FoundRow : Type 0
+FoundRow = List ℕ × List ℕ
+
+-- the identifier of a feature, and the bytes of the feature
+abbrev pub row_of : Feature → FoundRow
+row_of feature = (feature.id, feature_bytes feature)
+
+-- its identifier, and no bytes
+abbrev pub id_of : Feature → FoundRow
+id_of feature = (feature.id, [])
