@@ -52,10 +52,11 @@ fn push_stored_values(alloc: Global, row: &mut String, stored: &Stored<'_>) -> R
 
 // The first value that is left. The arm for a geometry shows the prover all types of a value.
 fn push_next(alloc: Global, row: &mut String, left: &mut StoredValues<'_>) -> Result<(), NoMemory>
-    ensures pushed { (first : AnyValue) (others : List AnyValue) → AreStored left.old (first ∷ others)
+    ensures pushed { (first : AnyValue) (others : List AnyValue)
+        → AreStored left.old (first ∷ others)
         → OnOk result (string_bytes row.new ≡ string_bytes row.old ++ printed (field_of first)) }
-    ensures rest { (first : AnyValue) (others : List AnyValue) → AreStored left.old (first ∷ others)
-        → AreStored left.new others }
+    ensures rest { (first : AnyValue) (others : List AnyValue)
+        → AreStored left.old (first ∷ others) → AreStored left.new others }
 {
     match left.next() {
         StoredValue::Geometry(geometry) => push_stored_geometry(alloc, row, &geometry),

@@ -1,5 +1,5 @@
 -- All rows of ranges, handed to a visitor.
-use Rattle.std.proofs.Common.{◌≡◌, ℕ, ◌-◌, ◌≤◌, List, [], ◌∷◌, ◌++◌, length, take, refl, ap, ◌∙◌, arith, length-append}
+use Rattle.std.proofs.Common.{◌≡◌, ℕ, ◌-◌, ◌≤◌, List, [], ◌∷◌, length, take, refl, ap, ◌∙◌, arith, length-append}
 use Rattle.std.specs.Prelude.{Result, Ok, Err, ⊤, IfErr, OnErr, slice_range}
 use Rattle.gm_base.specs.Spans.{Span}
 use Rattle.gm_base.specs.declared.NoMemory.{NoMemory}

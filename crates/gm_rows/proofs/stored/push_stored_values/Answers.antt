@@ -1,8 +1,7 @@
-use Rattle.std.proofs.Common.{◌≡◌, ◌++◌, ◌∷◌, ◌<◌, ◌≤◌, ◌+◌, ℕ, List, map, length, drop, get_or, ap, subst, sym, ◌∙◌, refl, arith}
+use Rattle.std.proofs.Common.{◌∷◌, ◌<◌, ◌+◌, length, drop, get_or, subst, sym, ◌∙◌, refl, arith}
 use Rattle.std.specs.String.{string_bytes}
 use Rattle.gm_feature.specs.declared.value.Value.TheVariants as value
 use Rattle.gm_feature.specs.Stored.{AreStored}
-use Rattle.gm_rows.specs.Printing.{printed, field_of, further}
 use Rattle.gm_rows.proofs.Pushing.{as_many, from_place, still_pushed, pushed_all}
 use Rattle.gm_rows.proofs.stored.push_stored_values.Goals as goal
 
