@@ -152,7 +152,7 @@ answer_is s n tests wanted es are_named collects same =
     ∙ ap (values_where test) (get-entries (features_of n s) id) ∙ sym (find_passing test id held (entries_sorted (features_of n s)))) in
     ap (map feature_of) (collects.entries ∙ is) ∙ features_passing test held (entries_named s n are_named)
 
-length-map : {A B : Type 0} (f : A → B) (xs : List A) → length (map f xs) ≡ length xs
+pub length-map : {A B : Type 0} (f : A → B) (xs : List A) → length (map f xs) ≡ length xs
 length-map f [] = refl
 length-map f (x ∷ xs) = let rest = length-map f xs in omega (arith, rest)
 

@@ -48,7 +48,7 @@ same_order Less a b c = refl
 same_order Equal a b c = refl
 same_order Greater a b c = refl
 
-insert_put : (es : Collected) (id : List ℕ) (v : List Value) → insert_entry (slice_cmp nat_cmp) es id v ≡ put (slice_cmp nat_cmp) id v es
+pub insert_put : {V : Type 0} (es : List (List ℕ × V)) (id : List ℕ) (v : V) → insert_entry (slice_cmp nat_cmp) es id v ≡ put (slice_cmp nat_cmp) id v es
 insert_put [] id v = refl
 insert_put (e ∷ es) id v =
     ap (λ rest. match_ordering (slice_cmp nat_cmp id e.0) ((id, v) ∷ e ∷ es) ((e.0, v) ∷ es) (e ∷ rest)) (insert_put es id v)

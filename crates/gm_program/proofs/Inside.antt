@@ -1,6 +1,6 @@
 -- The rows that a part of a plan reads: whose they are, that none is left out, and how many they are.
 use Rattle.std.proofs.Common.{◌≡◌, ◌<◌, ◌≤◌, ℕ, zero, suc, ◌+◌, Bool, true, false, true≢false, cond, ◌&&◌, ◌||◌, ◌⊎◌, inl, inr, ⊎_elim, List, [], ◌∷◌, ◌++◌, map, filter, length, count_by, Some, None, refl, sym, ap, subst, ◌∙◌, arith, length-append}
-use Rattle.std.specs.Prelude.{get_or, All, Result, IfOk}
+use Rattle.std.specs.Prelude.{get_or, All, Result, ⊤, IfOk, OnOk}
 use Rattle.std.proofs.lemmas.List.Elements.{All-from_recursion}
 use Rattle.std.specs.List.{list_any, AllByRecursion}
 use Rattle.std.proofs.lemmas.List.Sums.{length-filter, count_by-le-length}
@@ -32,14 +32,18 @@ use Rattle.gm_plan.specs.KeyRanges.{key_ranges}
 use Rattle.gm_plan.specs.Spans.{spans_of}
 use Rattle.gm_plan.specs.Inside.{is_inside, read_spans, IsRead}
 use Rattle.gm_plan.specs.Laws.{times_inside, AreApart}
+use Rattle.gm_scan.specs.FoundRows.{FoundRow}
 use Rattle.gm_scan.specs.Held.{AreBytesOf, HasFeature, Hold, matching}
 use Rattle.gm_strategy.specs.Chosen.{Chosen, IsServed}
+use Rattle.gm_program.specs.declared.execute.rows.Keeping.{Keeping}
 use Rattle.gm_program.specs.Finding.{IsAmong, IsTrueOf, Finds}
+use Rattle.gm_program.specs.Keeping.{Adds, kept_of}
 use Rattle.gm_program.specs.Question.{rows_read}
 use Rattle.gm_program.specs.Store.{IsTypeOf}
 use Rattle.gm_program.proofs.Bound.{Found, Stand, same_some, if_ok}
 use Rattle.gm_program.proofs.Collected.{is_key, same_key, true_or_false}
 use Rattle.gm_program.proofs.Answering.{each_found}
+use Rattle.gm_program.proofs.Planned.{on_ok}
 
 -- the laws
 abbrev pub At : Type 0
@@ -80,14 +84,18 @@ pub index_applies : (s : Specification) (kind : IndexKind) (t : Tree) → does_a
 index_applies s kind t is = (both_so (has_index s kind) (can_serve s kind t) is).0
 
 -- ---- whose a row is
--- the row is that of a feature of the type
-pub record IsRowOfType (s : State) (t : Specification) (bytes : List ℕ) : Type 0 where
+abbrev Row : Type 0
+Row = List ℕ × List ℕ
+
+-- the row is that of a feature of the type, in the index
+pub record IsRowOfType (s : State) (t : Specification) (kind : IndexKind) (row : Row) : Type 0 where
   pub feature : Feature
   pub held : feature_at t.number feature.id s ≡ Some feature
-  pub bytes_are : AreBytesOf t bytes feature
+  pub keyed : key_of t kind feature ≡ Some row.0
+  pub bytes_are : AreBytesOf t row.1 feature
 
 pub row_inside : Found → (s : State) (t : Specification) (of_index : OfIndex t) (kind : IndexKind) (wanted : Tree) (target : ℕ) (key bytes : List ℕ) → IsState s → type_at t.number s ≡ Some t → has_index t kind ≡ true
-    → at_key key (rows_of s) ≡ Some bytes → is_inside key (read_spans t kind wanted target) ≡ true → IsRowOfType s t bytes
+    → at_key key (rows_of s) ≡ Some bytes → is_inside key (read_spans t kind wanted target) ≡ true → IsRowOfType s t kind (key, bytes)
 row_inside found s t of_index kind wanted target key bytes state typed has at inside =
     let r = found s key bytes at in
     let here = state.placed r.number r.specification r.typed in
@@ -99,13 +107,11 @@ row_inside found s t of_index kind wanted target key bytes state typed has at in
     record {
       feature = r.feature;
       held = (λ i. feature_at (sym number i) (held.named i) s) ∙ r.held;
+      keyed = (λ i. key_of (sym same i) (own.1 i) r.feature) ∙ r.keyed;
       bytes_are = record { fits = subst (λ u. Fits u r.feature) same held.fits; same = r.same };
     }
 
 -- ---- rows in spans
-abbrev Row : Type 0
-Row = List ℕ × List ℕ
-
 each_as : {A : Type 0} {P Q : A → Type 0} (xs : List A) → ((x : A) → P x → Q x) → AllByRecursion P xs → AllByRecursion Q xs
 each_as [] f each = tt
 each_as (x ∷ xs) f each = (f x each.0, each_as xs f each.1)
@@ -139,13 +145,13 @@ each_stands at s =
 
 -- each row that is read is that of a feature of the type
 pub rows_are_of_type : At → Found → (s : State) (t : Specification) (of_index : OfIndex t) (kind : IndexKind) (wanted : Tree) (target : ℕ) → IsState s → type_at t.number s ≡ Some t → has_index t kind ≡ true
-    → AllByRecursion (λ row. IsRowOfType s t row.1) (rows_in (read_spans t kind wanted target) (rows_of s))
+    → AllByRecursion (IsRowOfType s t kind) (rows_in (read_spans t kind wanted target) (rows_of s))
 rows_are_of_type at found s t of_index kind wanted target state typed has =
-    each_in (λ row. IsRowOfType s t row.1) (read_spans t kind wanted target) (rows_of s)
+    each_in (IsRowOfType s t kind) (read_spans t kind wanted target) (rows_of s)
     (each_as (rows_of s) (λ row stands inside. row_inside found s t of_index kind wanted target row.0 row.1 state typed has stands inside) (each_stands at s))
 
-pub rows_have_features : (s : State) (t : Specification) (rows : Rows) → AllByRecursion (λ row. IsRowOfType s t row.1) rows → AllByRecursion (λ row. HasFeature t row.1) rows
-rows_have_features s t rows each = each_as rows (λ row own. (own.feature, own.bytes_are)) each
+pub rows_have_features : (s : State) (t : Specification) (kind : IndexKind) (rows : Rows) → AllByRecursion (IsRowOfType s t kind) rows → AllByRecursion (λ row. HasFeature t row.1) rows
+rows_have_features s t kind rows each = each_as rows (λ row own. (own.feature, own.bytes_are)) each
 
 -- ---- none is left out
 abbrev Has : List ℕ → List ℕ → Rows → Type 0
@@ -202,14 +208,14 @@ among_matching f test (g ∷ held) passes (inr later) =
     let rest = among_matching f test held passes later in
     elim (is_true g test) as (λ b. IsAmong f (cond b (g ∷ matching test held) (matching test held))) [ true ↦ inr rest | false ↦ rest ]
 
-each_held : SameBytes → (s : State) (t : Specification) (rows : Rows) (held : List Feature) → AllByRecursion (λ row. IsRowOfType s t row.1) rows → Hold t rows held
+each_held : SameBytes → (s : State) (t : Specification) (kind : IndexKind) (rows : Rows) (held : List Feature) → AllByRecursion (IsRowOfType s t kind) rows → Hold t rows held
     → AllByRecursion (λ f. feature_at t.number f.id s ≡ Some f) held
-each_held same s t [] [] each holds = tt
-each_held same s t [] (g ∷ held) each holds = absurd holds
-each_held same s t (row ∷ rows) [] each holds = absurd holds
-each_held same s t (row ∷ rows) (g ∷ held) each holds =
+each_held same s t kind [] [] each holds = tt
+each_held same s t kind [] (g ∷ held) each holds = absurd holds
+each_held same s t kind (row ∷ rows) [] each holds = absurd holds
+each_held same s t kind (row ∷ rows) (g ∷ held) each holds =
     let is : each.0.feature ≡ g = same t each.0.feature g each.0.bytes_are.fits holds.0.fits (sym each.0.bytes_are.same ∙ holds.0.same) in
-    (subst (λ (h : Feature). feature_at t.number h.id s ≡ Some h) is each.0.held, each_held same s t rows held each.1 holds.1)
+    (subst (λ (h : Feature). feature_at t.number h.id s ≡ Some h) is each.0.held, each_held same s t kind rows held each.1 holds.1)
 
 -- ---- what a part finds
 pub part_finds : At → Found → Stand → KeysInside → SameBytes → (s : State) (t : Specification) (of_index : OfIndex t) (kind : IndexKind) (wanted : Tree) (target : ℕ) (held : List Feature)
@@ -220,7 +226,7 @@ part_finds at found stand inside same s t of_index kind wanted target held state
     let spans = read_spans t kind wanted target in
     let there = state.placed t.number t typed in record {
       sound = each_filtered (λ f. is_true f wanted) held (λ f bound passes. record { held = bound; passes = passes })
-          (each_held same s t (rows_in spans (rows_of s)) held (rows_are_of_type at found s t of_index kind wanted target state typed has) holds);
+          (each_held same s t kind (rows_in spans (rows_of s)) held (rows_are_of_type at found s t of_index kind wanted target state typed has) holds);
       whole = λ f true_of.
           let fits = (state.held t.number t f.id f typed true_of.held).fits in
           let read = inside t kind wanted target f there.typed suits applies some fits true_of.passes in
@@ -303,21 +309,35 @@ pub scan_has_features : At → Found → (s : State) (t : Specification) (of_ind
 scan_has_features at found s t of_index part target rows spans own served is =
     let read = read_spans t part.index part.wanted target in
     let there : All (λ row. HasFeature t row.1) (rows_in read (rows_of s)) =
-    All-from_recursion (λ row. HasFeature t row.1) (rows_in read (rows_of s)) (rows_have_features s t (rows_in read (rows_of s))
+    All-from_recursion (λ row. HasFeature t row.1) (rows_in read (rows_of s)) (rows_have_features s t part.index (rows_in read (rows_of s))
     (rows_are_of_type at found s t of_index part.index part.wanted target own.state own.typed (index_applies t part.index part.wanted served.applies))) in
     subst (λ (rs : Rows). All (λ row. HasFeature t row.1) (rows_in spans rs)) (sym own.same_rows)
     (subst (λ (ss : List Span). All (λ row. HasFeature t row.1) (rows_in ss (rows_of s))) (sym is) there)
+
+pub part_held : At → Found → Stand → KeysInside → SameBytes → HoldSome → (s : State) (t : Specification) (of_index : OfIndex t) (part : Chosen) (target : ℕ) (rows : Rows) (spans : List Span)
+    → IsTypeOf s t rows → IsServed t part → 1 ≤ target → spans ≡ read_spans t part.index part.wanted target
+    → (held : List Feature) × Hold t (rows_in spans rows) held × Finds s t.number part.wanted (matching part.wanted held)
+part_held at found stand inside same some s t of_index part target rows spans own served least is =
+    let read = read_spans t part.index part.wanted target in
+    let held = some t (rows_in spans rows) (scan_has_features at found s t of_index part target rows spans own served is) in
+    let there : Hold t (rows_in read (rows_of s)) held.0 =
+    subst (λ (ss : List Span). Hold t (rows_in ss (rows_of s)) held.0) is (subst (λ (rs : Rows). Hold t (rows_in spans rs) held.0) own.same_rows held.1) in
+    (held.0, held.1, part_finds at found stand inside same s t of_index part.index part.wanted target held.0 own.state own.typed served.suits served.applies least there)
 
 pub part_found : At → Found → Stand → KeysInside → SameBytes → HoldSome → (s : State) (t : Specification) (of_index : OfIndex t) (part : Chosen) (target : ℕ) (rows : Rows) (spans : List Span) (result : Result (List Feature) NoMemory)
     → IsTypeOf s t rows → IsServed t part → 1 ≤ target → spans ≡ read_spans t part.index part.wanted target
     → ((held : List Feature) → Hold t (rows_in spans rows) held → IfOk result (λ fs. fs ≡ matching part.wanted held)) → IfOk result (Finds s t.number part.wanted)
 part_found at found stand inside same some s t of_index part target rows spans result own served least is scanned =
-    let read = read_spans t part.index part.wanted target in
-    let held = some t (rows_in spans rows) (scan_has_features at found s t of_index part target rows spans own served is) in
-    let there : Hold t (rows_in read (rows_of s)) held.0 =
-    subst (λ (ss : List Span). Hold t (rows_in ss (rows_of s)) held.0) is (subst (λ (rs : Rows). Hold t (rows_in spans rs) held.0) own.same_rows held.1) in
-    let finds = part_finds at found stand inside same s t of_index part.index part.wanted target held.0 own.state own.typed served.suits served.applies least there in
-    if_ok result (λ fs matches. subst (Finds s t.number part.wanted) (sym matches) finds) (scanned held.0 held.1)
+    let held = part_held at found stand inside same some s t of_index part target rows spans own served least is in
+    if_ok result (λ fs matches. subst (Finds s t.number part.wanted) (sym matches) held.2) (scanned held.0 held.1)
+
+pub part_added : At → Found → Stand → KeysInside → SameBytes → HoldSome → (s : State) (t : Specification) (of_index : OfIndex t) (part : Chosen) (target : ℕ) (rows : Rows) (spans : List Span)
+    (keeping : Keeping) (before after : List FoundRow) (result : Result ⊤ NoMemory) → IsTypeOf s t rows → IsServed t part → 1 ≤ target → spans ≡ read_spans t part.index part.wanted target
+    → ((held : List Feature) → Hold t (rows_in spans rows) held → OnOk result (after ≡ before ++ map (kept_of keeping) (matching part.wanted held)))
+    → OnOk result (Adds s t.number part.wanted keeping before after)
+part_added at found stand inside same some s t of_index part target rows spans keeping before after result own served least is scanned =
+    let held = part_held at found stand inside same some s t of_index part target rows spans own served least is in
+    on_ok result (scanned held.0 held.1) (λ are. record { features = matching part.wanted held.0; finds = held.2; are = are })
 
 pub part_counted : (s : State) (t : Specification) (part : Chosen) (target : ℕ) (rows : Rows) (spans : List Span) → IsTypeOf s t rows → spans ≡ read_spans t part.index part.wanted target
     → AreApart (read_spans t part.index part.wanted target) → length (rows_in spans rows) ≡ rows_read t target (rows_of s) part

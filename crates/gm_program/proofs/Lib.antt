@@ -10,11 +10,16 @@ pub mod Found
 pub mod Giving
 pub mod Inside
 pub mod Joins
+pub mod Kept
 pub mod Making
 pub mod Numbers
+pub mod Once
 pub mod Opening
+pub mod Ordered
 pub mod Parts
 pub mod Planned
+pub mod Printing
+pub mod Queried
 pub mod Questions
 pub mod Values
 pub mod StateLemmas

@@ -54,3 +54,12 @@ lines_next t target parts i place part lines more all within is place_is more_is
     ∙ append_assoc lines (part_lines t target (i + 1) (chosen_of part)) (plan_lines t target (i + 1 + 1) (map chosen_of (drop (i + 1) parts)))
     ∙ ap (λ ps. lines ++ plan_lines t target (i + 1) (map chosen_of ps)) (sym (left parts i part within is))
     ∙ before
+
+-- a part alone
+pub alone : (parts : List Part) (part : Part) → length parts ≡ 1 → part ≡ get_or parts 0 part → parts ≡ part ∷ []
+alone [] part one is = absurd (omega (arith, one))
+alone (p ∷ []) part one is = ap (λ (q : Part). q ∷ []) (sym is)
+alone (p ∷ q ∷ parts) part one is = absurd (omega (arith, one))
+
+pub examined_alone : (t : Specification) (target : ℕ) (rows : Rows) (part : Part) → rows_read t target rows (chosen_of part) ≡ rows_examined t target rows (map chosen_of (part ∷ []))
+examined_alone t target rows part = omega arith

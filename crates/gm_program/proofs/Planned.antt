@@ -80,7 +80,7 @@ examined_more t target rows [] part = omega arith
 examined_more t target rows (p ∷ parts) part =
     omega (arith, examined_more t target rows parts part, examined_cons t target rows p parts, examined_cons t target rows p (parts ++ part ∷ []))
 
-few_read : (t : Specification) (target : ℕ) (rows : Rows) (part : Chosen) → length rows ≤ 2000000 → rows_read t target rows part ≤ 2000000
+pub few_read : (t : Specification) (target : ℕ) (rows : Rows) (part : Chosen) → length rows ≤ 2000000 → rows_read t target rows part ≤ 2000000
 few_read t target rows part few = omega (arith, few, count_by-le-length (λ row. is_inside row.0 (read_spans t part.index part.wanted target)) rows)
 
 pub few_examined : (t : Specification) (target : ℕ) (rows : Rows) (parts : List Chosen) → length rows ≤ 2000000 → rows_examined t target rows parts ≤ length parts * 2000000

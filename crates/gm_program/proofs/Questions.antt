@@ -61,45 +61,12 @@ refused_reply s a t outcome code types rows tally fits holds typed number is =
     executes_refused s (asked_of (type_at a.number s) a s outcome) code types rows tally fits holds
     (step_refused s a t outcome code (ap (λ (n : ℕ). type_at n s) (sym number) ∙ typed) (is s (outcome t)))
 
--- ---- the features
+-- ---- the filters of the parts
 pub tests_same : FindAll → (t : Specification) (a : Asked) (parts : List Part) → plan_of t a.wanted a.hint ≡ Some (map chosen_of parts)
     → (f : Feature) → is_true f a.wanted ≡ list_any (λ test. is_true f test) (tests_of (map chosen_of parts))
 tests_same all t a parts plan f = all t a.wanted a.hint (map chosen_of parts) plan f ∙ any_test f (map chosen_of parts)
 
-pub query_reply : FindAll → (s : State) (a : Asked) (t : Specification) (parts : List Part) (target : ℕ) (es : Collected) (features : List Feature) (examined before after : ℕ) (types : Types) (rows : Rows)
-    → Holds s types rows → type_at t.number s ≡ Some t → t.number ≡ a.number → IsPlanned t a (plan.Parts parts target) → Collects s t.number (tests_of (map chosen_of parts)) es
-    → features ≡ map feature_of es → (examined ≡ rows_examined t target (rows_of s) (map chosen_of parts)) × (after ≡ capped_sum before examined)
-    → Executes (query_step a s) (Some (reply.Found features examined)) types rows before after
-query_reply all s a t parts target es features examined before after types rows holds typed number planned collects are read =
-    let at : type_at a.number s ≡ Some t = ap (λ (n : ℕ). type_at n s) (sym number) ∙ typed in
-    let same : features ≡ answer a.number a.wanted s =
-    are ∙ answer_is s t.number (tests_of (map chosen_of parts)) a.wanted es (are_named s t holds.state typed) collects (tests_same all t a parts planned.2)
-    ∙ ap (λ (n : ℕ). answer n a.wanted s) number in
-    let count : examined ≡ rows_examined t a.target (rows_of s) (map chosen_of parts) = read.0 ∙ ap (λ (n : ℕ). rows_examined t n (rows_of s) (map chosen_of parts)) planned.0 in
-    subst (λ o. Executes o (Some (reply.Found features examined)) types rows before after)
-    (sym (step_answered s a t (found a s) (map chosen_of parts) at planned.2 planned.1)) (record {
-      store = holds;
-      reply = λ i. Some (reply.Found (same i) (count i));
-      tally = read.1 ∙ ap (capped_sum before) count;
-    })
-
-pub count_reply : FindAll → (s : State) (a : Asked) (t : Specification) (parts : List Part) (target : ℕ) (es : Collected) (matched examined before after : ℕ) (types : Types) (rows : Rows)
-    → Holds s types rows → type_at t.number s ≡ Some t → t.number ≡ a.number → IsPlanned t a (plan.Parts parts target) → Collects s t.number (tests_of (map chosen_of parts)) es
-    → matched ≡ length es → (examined ≡ rows_examined t target (rows_of s) (map chosen_of parts)) × (after ≡ capped_sum before examined)
-    → Executes (count_step a s) (Some (reply.Counted matched examined)) types rows before after
-count_reply all s a t parts target es matched examined before after types rows holds typed number planned collects are read =
-    let at : type_at a.number s ≡ Some t = ap (λ (n : ℕ). type_at n s) (sym number) ∙ typed in
-    let same : matched ≡ length (answer a.number a.wanted s) =
-    are ∙ answer_length s t.number (tests_of (map chosen_of parts)) a.wanted es (are_named s t holds.state typed) collects (tests_same all t a parts planned.2)
-    ∙ ap (λ (n : ℕ). length (answer n a.wanted s)) number in
-    let count : examined ≡ rows_examined t a.target (rows_of s) (map chosen_of parts) = read.0 ∙ ap (λ (n : ℕ). rows_examined t n (rows_of s) (map chosen_of parts)) planned.0 in
-    subst (λ o. Executes o (Some (reply.Counted matched examined)) types rows before after)
-    (sym (step_answered s a t (counted a s) (map chosen_of parts) at planned.2 planned.1)) (record {
-      store = holds;
-      reply = λ i. Some (reply.Counted (same i) (count i));
-      tally = read.1 ∙ ap (capped_sum before) count;
-    })
-
+-- ---- the lines of a plan
 pub explain_reply : (s : State) (a : Asked) (t : Specification) (parts : List Part) (target : ℕ) (lines : List (List ℕ)) (tally : ℕ) (types : Types) (rows : Rows) → tally < 2 ^ 64
     → Holds s types rows → type_at t.number s ≡ Some t → t.number ≡ a.number → IsPlanned t a (plan.Parts parts target) → lines ≡ plan_lines t target 1 (map chosen_of parts)
     → Executes (explain_step a s) (Some (reply.Explained lines)) types rows tally tally

@@ -1,5 +1,5 @@
 -- What is collected of features by their identifiers.
-use Rattle.std.specs.Prelude.{◌≡◌, ℕ, Bool, if◌then◌else◌, List, [], ◌∷◌, Option, Some, None}
+use Rattle.std.specs.Prelude.{◌≡◌, ℕ, Bool, if◌then◌else◌, List, [], ◌∷◌, length, Option, Some, None}
 use Rattle.std.specs.List.{list_any}
 use Rattle.std.specs.Ordering.{nat_cmp}
 use Rattle.std.specs.Cmp.Lexicographic.{slice_cmp}
@@ -33,3 +33,9 @@ pub record Collects (s : State) (n : ℕ) (tests : List Tree) (held : Collected)
   pub values : map.FinMap (slice_cmp nat_cmp) (List Value)
   pub entries : held ≡ map.entries values
   pub at : (id : List ℕ) → map.get values id ≡ values_if tests (feature_at n id s)
+
+-- so many stand there
+pub record Counts (s : State) (n : ℕ) (tests : List Tree) (count : ℕ) : Type 0 where
+  pub held : Collected
+  pub collects : Collects s n tests held
+  pub are : count ≡ length held

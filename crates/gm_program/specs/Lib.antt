@@ -11,6 +11,8 @@ pub mod Generator
 pub mod Running
 pub mod Statuses
 pub mod Collecting
+pub mod InOrder
+pub mod Keeping
 pub mod Finding
 pub mod Planning
 pub mod Matching

@@ -1,5 +1,6 @@
 -- What an order does to a plain map of features.
 use Rattle.std.specs.Prelude.{ℕ, Bool, ◌&&◌, nat_le, if◌then◌else◌, List, [], map, length, slice_set, Option, Some, None, is_some}
+use Rattle.std.specs.List.{flat_map}
 use Rattle.gm_base.specs.declared.code.Code.{Code}
 use Rattle.gm_base.specs.declared.code.Code.TheVariants.{E06, E13, E18, E19}
 use Rattle.gm_types.specs.Specification.{Specification}
@@ -12,6 +13,7 @@ use Rattle.gm_engine_rows.specs.State.{State, type_at, feature_at, changed_in, w
 use Rattle.gm_engine_rows.specs.Rows.{rows_of}
 use Rattle.gm_script.specs.Description.{description_of}
 use Rattle.gm_script.specs.Order.{Order, Asked, asked, nothing, create, put, delete, remove, modify, query, count, explain, describe}
+use Rattle.gm_script.specs.Reply.{row_line}
 use Rattle.gm_script.specs.declared.reply.Reply.{Reply}
 use Rattle.gm_script.specs.declared.reply.Reply.TheVariants as reply
 use Rattle.gm_strategy.specs.Chosen.{Chosen}
@@ -87,7 +89,8 @@ asked_of (Some t) a s outcome = planned s a.target (plan_of t a.wanted a.hint) (
 abbrev pub found : Asked → State → Specification → List Chosen → Outcome
 found a s t parts =
     let examined_rows = rows_examined t a.target (rows_of s) parts in
-    answered s (reply.Found (answer a.number a.wanted s) examined_rows) examined_rows
+    let features = answer a.number a.wanted s in
+    answered s (reply.Found (flat_map row_line features) (length features) examined_rows) examined_rows
 
 abbrev pub query_step : Asked → State → Outcome
 query_step a s = asked_of (type_at a.number s) a s (found a s)

@@ -9,18 +9,22 @@ ghost use Rattle.gm_program.specs.Step.{step};
 ghost use Rattle.gm_program.specs.Store.{Holds, HasState};
 
 mod bound;
+mod counted;
 mod create;
 mod delete;
 mod describe;
 mod explain;
 mod found;
+mod in_order;
 mod matched;
 mod modify;
 mod parts;
 mod plan;
+mod printed;
 mod put;
 mod query;
 mod remove;
+mod rows;
 
 use crate::setting::Setting;
 use crate::store::Store;

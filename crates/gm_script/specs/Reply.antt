@@ -34,10 +34,9 @@ listed_bytes word lines = counted_bytes word (length lines) ++ flat_map line_of 
 abbrev pub row_line : Feature → List ℕ
 row_line feature = line_of (row_text feature)
 
--- so many features, and their rows
-abbrev pub found_bytes : List Feature → ℕ → List ℕ
-found_bytes features examined =
-    matched_bytes (codes "ok query ") (length features) examined ++ flat_map row_line features
+-- so many features, and the lines of their rows
+abbrev pub found_bytes : List ℕ → ℕ → ℕ → List ℕ
+found_bytes rows matched examined = matched_bytes (codes "ok query ") matched examined ++ rows
 
 -- where a row was at fault, its number
 abbrev pub row_number : Option ℕ → List ℕ
@@ -54,7 +53,7 @@ reply_bytes (Stored id replaced) = line_of (codes "ok put " ++ (id ++ stored_wor
 reply_bytes (Deleted id) = line_of (codes "ok delete " ++ id)
 reply_bytes (Removed count) = counted_bytes (codes "ok remove ") count
 reply_bytes (Modified count) = counted_bytes (codes "ok modify ") count
-reply_bytes (Found features examined) = found_bytes features examined
+reply_bytes (Found rows matched examined) = found_bytes rows matched examined
 reply_bytes (Counted matched examined) = matched_bytes (codes "ok count ") matched examined
 reply_bytes (Explained lines) = listed_bytes (codes "ok explain ") lines
 reply_bytes (Described lines) = listed_bytes (codes "ok describe ") lines

@@ -11,7 +11,6 @@ mod numbers;
 mod part;
 mod reading;
 mod reply;
-mod rows;
 mod words;
 
 pub use command::{Ask, Command};

@@ -5,9 +5,7 @@ ghost use Rattle.std.specs.String.{string_bytes};
 ghost use Rattle.gm_script.specs.Reply as spec;
 
 use crate::numbers::append_number;
-use crate::rows::{append_rows, rows_room};
 use gm_base::{Bytes, Code, FeatureId, NoMemory, Text};
-use gm_feature::FeatureList;
 use gm_filter::TextList;
 use std::alloc::Global;
 
@@ -22,8 +20,10 @@ pub enum Reply {
     Deleted(FeatureId),
     Removed(u64),
     Modified(u64),
+    /// The rows of the features that match, each with its line end, and how many they are.
     Found {
-        features: FeatureList,
+        rows: Text,
+        matched: u64,
         examined: u64,
     },
     Counted {
@@ -44,14 +44,14 @@ pub fn print_reply(alloc: Global, reply: &Reply) -> Result<Bytes, NoMemory>
     ensures { IfOk result (λ bytes. bytes ≡ spec.reply_bytes reply.now) }
 {
     let mut text = String::with_capacity(alloc, room_of(reply))?;
-    append_reply(alloc, &mut text, reply)?;
+    append_reply(&mut text, reply)?;
     Ok(Bytes::from_vec(text.into_bytes()))
 }
 
 // About how many bytes a reply takes.
 fn room_of(reply: &Reply) -> usize {
     match reply {
-        Reply::Found { features, .. } => rows_room(features.as_slice()),
+        Reply::Found { rows, .. } => rows.as_bytes().len().saturating_add(SHORT_ROOM),
         Reply::Explained(lines) => lines_room(lines.as_slice()),
         Reply::Described(lines) => lines_room(lines.as_slice()),
         _ => SHORT_ROOM,
@@ -70,7 +70,7 @@ fn lines_room(lines: &[Text]) -> usize {
 }
 
 #[tactic(auto, unfolding(crate::specs::Reply::reply_bytes))]
-fn append_reply(alloc: Global, text: &mut String, reply: &Reply) -> Result<(), NoMemory>
+fn append_reply(text: &mut String, reply: &Reply) -> Result<(), NoMemory>
     ensures { OnOk result (string_bytes text.new
         ≡ string_bytes text.old ++ spec.reply_bytes reply.now) }
 {
@@ -80,7 +80,11 @@ fn append_reply(alloc: Global, text: &mut String, reply: &Reply) -> Result<(), N
         Reply::Deleted(id) => append_line(text, "ok delete ", id.as_str()),
         Reply::Removed(count) => append_count(text, "ok remove ", *count),
         Reply::Modified(count) => append_count(text, "ok modify ", *count),
-        Reply::Found { features, examined } => append_found(alloc, text, features, *examined),
+        Reply::Found {
+            rows,
+            matched,
+            examined,
+        } => append_found(text, rows, *matched, *examined),
         Reply::Counted { matched, examined } => {
             append_matched(text, "ok count ", *matched, *examined)
         }
@@ -143,17 +147,13 @@ fn append_matched(
     Ok(())
 }
 
-fn append_found(
-    alloc: Global,
-    text: &mut String,
-    features: &FeatureList,
-    examined: u64,
-) -> Result<(), NoMemory>
+fn append_found(text: &mut String, rows: &Text, matched: u64, examined: u64) -> Result<(), NoMemory>
     ensures { OnOk result (string_bytes text.new
-        ≡ string_bytes text.old ++ spec.found_bytes features.now examined) }
+        ≡ string_bytes text.old ++ spec.found_bytes rows.now matched examined) }
 {
-    append_matched(text, "ok query ", features.len() as u64, examined)?;
-    append_rows(alloc, text, features.as_slice())
+    append_matched(text, "ok query ", matched, examined)?;
+    text.push_str(rows.as_str())?;
+    Ok(())
 }
 
 fn append_lines(text: &mut String, lines: &[Text]) -> Result<(), NoMemory>

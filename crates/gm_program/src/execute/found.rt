@@ -1,5 +1,5 @@
 // Features by their identifiers.
-ghost use Rattle.std.specs.Prelude.{◌≡◌, [], map, length, IfOk, OnOk};
+ghost use Rattle.std.specs.Prelude.{◌≡◌, [], map, IfOk, OnOk};
 ghost use Rattle.gm_program.specs.Collecting.{collected, feature_of};
 
 use gm_base::{FeatureId, Items, NoMemory};
@@ -32,12 +32,6 @@ impl Found {
             self.values.insert(id, values)?;
         }
         Ok(())
-    }
-
-    pub(super) fn len(&self) -> usize
-        ensures { result ≡ length self.now.values.entries }
-    {
-        self.values.len()
     }
 
     pub(super) fn into_features(self, alloc: Global) -> Result<FeatureList, NoMemory>

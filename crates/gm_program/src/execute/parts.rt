@@ -4,6 +4,7 @@ ghost use Rattle.gm_base.specs.Counter.{capped_sum};
 ghost use Rattle.gm_engine_rows.specs.State.{State};
 ghost use Rattle.gm_engine_rows.specs.Rows.{rows_of};
 ghost use Rattle.gm_filter.specs.Tree.{tree};
+ghost use Rattle.gm_plan.specs.Inside.{read_spans};
 ghost use Rattle.gm_strategy.specs.Chosen.{IsServed, chosen_of};
 ghost use Rattle.gm_program.specs.Collecting.{Collects};
 ghost use Rattle.gm_program.specs.Finding.{Finds, tests_of};
@@ -11,7 +12,7 @@ ghost use Rattle.gm_program.specs.Question.{rows_read, rows_examined};
 ghost use Rattle.gm_program.specs.Store.{IsTypeOf, HasType};
 
 use super::found::Found;
-use gm_base::{Counter, NoMemory};
+use gm_base::{Counter, NoMemory, SpanList};
 use gm_engine_rows::rows_are_of_features;
 use gm_feature::{FeatureList, bytes_tell_features_apart};
 use gm_plan::{
@@ -115,7 +116,23 @@ fn read_part<B: Sorted>(
     bytes_tell_features_apart();
     types_hold_together(of);
     let _shards = of.shards();
-    let of_ranges = ranges(alloc, of, part.kind, &part.filter, target)?;
-    let spans = byte_ranges(alloc, of, part.kind, &of_ranges)?;
+    let spans = spans_of(alloc, of, part, target)?;
     scan_one(alloc, of, table, &spans, &part.filter, tally)
+}
+
+/// The spans of keys that a part reads.
+pub(super) fn spans_of(
+    alloc: Global,
+    of: &FeatureType,
+    part: &Part,
+    target: u32,
+) -> Result<SpanList, NoMemory>
+    requires served { IsServed of.now (chosen_of part.now) }
+    requires least { 1 ≤ target }
+    requires most { target ≤ 10000 }
+    ensures { IfOk result (λ spans. spans
+        ≡ read_spans of.now part.now.kind (tree part.now.filter) target) }
+{
+    let of_ranges = ranges(alloc, of, part.kind, &part.filter, target)?;
+    byte_ranges(alloc, of, part.kind, &of_ranges)
 }

@@ -7,8 +7,10 @@ ghost use Rattle.gm_program.specs.Serving.{Executes};
 ghost use Rattle.gm_program.specs.Step.{query_step, count_step};
 ghost use Rattle.gm_program.specs.Store.{Holds, HasState};
 
-use super::parts::read_plan;
+use super::counted::{Counted, count_plan};
 use super::plan::{Planned, plan_for};
+use super::printed::{Printed, print_found};
+use super::rows::{Keeping, read_rows};
 use crate::store::Store;
 use gm_base::NoMemory;
 use gm_script::{Ask, Reply};
@@ -36,10 +38,23 @@ pub(super) fn query<B: Sorted>(
     match plan_for(alloc, of, ask)? {
         Planned::Refused(code) => Ok(Some(Reply::Refusal { code, row: None })),
         Planned::Parts(plan, target) => {
-            let read = read_plan(alloc, of, plan.as_slice(), target, &store.table, tally)?;
+            let read = read_rows(
+                alloc,
+                of,
+                plan.as_slice(),
+                target,
+                Keeping::Rows,
+                &store.table,
+                tally,
+            )?;
+            let printed = print_found(alloc, of, &read.rows)?;
             let examined = read.examined;
-            let features = read.found.into_features(alloc)?;
-            Ok(Some(Reply::Found { features, examined }))
+            let Printed { rows, matched } = printed;
+            Ok(Some(Reply::Found {
+                rows,
+                matched,
+                examined,
+            }))
         }
     }
 }
@@ -64,9 +79,8 @@ pub(super) fn count<B: Sorted>(
     match plan_for(alloc, of, ask)? {
         Planned::Refused(code) => Ok(Some(Reply::Refusal { code, row: None })),
         Planned::Parts(plan, target) => {
-            let read = read_plan(alloc, of, plan.as_slice(), target, &store.table, tally)?;
-            let examined = read.examined;
-            let matched = read.found.len() as u64;
+            let counted = count_plan(alloc, of, plan.as_slice(), target, &store.table, tally)?;
+            let Counted { matched, examined } = counted;
             Ok(Some(Reply::Counted { matched, examined }))
         }
     }

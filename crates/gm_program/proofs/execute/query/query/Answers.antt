@@ -6,19 +6,22 @@ use Rattle.gm_script.specs.Order.{asked_by}
 use Rattle.gm_strategy.specs.Chosen.{IsServed, chosen_of}
 use Rattle.gm_program.specs.declared.execute.plan.Planned.{Planned}
 use Rattle.gm_program.specs.Planning.{IsPlanned}
-use Rattle.gm_program.specs.Collecting.{Collects}
+use Rattle.gm_program.specs.declared.execute.rows.Keeping.TheVariants as keeping
 use Rattle.gm_program.specs.Finding.{tests_of}
-use Rattle.gm_program.specs.Question.{rows_examined}
+use Rattle.gm_program.specs.Keeping.{Keeps}
+use Rattle.gm_program.specs.Question.{answer, rows_examined}
 use Rattle.gm_program.specs.Step.{found}
 use Rattle.gm_program.specs.Store.{HasType, IsTypeOf}
 use Rattle.gm_base.specs.Counter.{capped_sum}
 use Rattle.gm_engine_rows.specs.Rows.{rows_of}
 use Rattle.gm_program.proofs.Planned.{type_of}
-use Rattle.gm_program.proofs.Questions.{asked_type, type_known, has_type, refused_reply, query_reply}
+use Rattle.gm_program.proofs.Kept.{keeps_bound}
+use Rattle.gm_program.proofs.Queried.{query_reply, rows_are}
+use Rattle.gm_program.proofs.Questions.{asked_type, type_known, has_type, refused_reply}
 use Rattle.gm_program.proofs.execute.query.query.Goals as goal
 
-pub read_plan-requires-clause-typed : goal.read_plan-requires-clause-typed
-read_plan-requires-clause-typed g c κs within =
+pub read_rows-requires-clause-typed : goal.read_rows-requires-clause-typed
+read_rows-requires-clause-typed g c κs within =
     let a = asked_by c.args.ask.now in
     let types = c.args.store.now.types in
     let t = c.index-as_slice-from.result in
@@ -26,8 +29,8 @@ read_plan-requires-clause-typed g c κs within =
     let same : t ≡ q.of = asked_type types c.as_slice.result.now a c.from.result t q c.as_slice.ensures.list c.from.ensures c.index-as_slice-from.is in
     subst (λ u. HasType u (g.B.Sorted.rows c.args.store.now.table)) (sym same) (has_type types (g.B.Sorted.rows c.args.store.now.table) a q c.requires.kept)
 
-pub read_plan-requires-clause-served : goal.read_plan-requires-clause-served
-read_plan-requires-clause-served g c κs within =
+pub read_rows-requires-clause-served : goal.read_rows-requires-clause-served
+read_rows-requires-clause-served g c κs within =
     let a = asked_by c.args.ask.now in
     let types = c.args.store.now.types in
     let t = c.index-as_slice-from.result in
@@ -51,8 +54,36 @@ returns-in-Refused g c = λ s holds.
     ((g.met.B.Tally.Counter g.world.𝓛 g.world.𝓜 g.world.𝓡 ((λ s x. x), (λ x. x), (λ x. x), λ x. x)).fits c.args.tally.now) holds known.0 known.1
     (subst (λ (p : Planned). IsPlanned t a p) c.in-Refused.is c.in_ok-code.ensures)
 
-pub returns-in_ok-features-in-Parts : goal.returns-in_ok-features-in-Parts
-returns-in_ok-features-in-Parts g c = λ s holds.
+pub print_found-requires-clause-bound : goal.print_found-requires-clause-bound
+print_found-requires-clause-bound g c =
+    let t = c.index-as_slice-from.result in
+    let q = c.requires.suits in
+    let same : t ≡ q.of = asked_type c.args.store.now.types c.as_slice.result.now (asked_by c.args.ask.now) c.from.result t q c.as_slice.ensures.list c.from.ensures c.index-as_slice-from.is in
+    let rows = g.B.Sorted.rows c.args.store.now.table in
+    let s = c.requires.kept.0 in
+    let holds = c.requires.kept.1 in
+    let own = subst (λ u. IsTypeOf s u rows) (sym same) (type_of s q.of c.args.store.now.types rows holds (type_known s c.args.store.now.types rows (asked_by c.args.ask.now) q holds).0) in
+    let parts = map chosen_of c.as_slice-in-Parts.result.now in
+    keeps_bound s t.number (tests_of parts) keeping.Rows c.in_ok-read-in-Parts.read.rows (c.in_ok-read-in-Parts.ensures.found s own)
+
+pub print_found-requires-clause-rows : goal.print_found-requires-clause-rows
+print_found-requires-clause-rows g c =
+    let a = asked_by c.args.ask.now in
+    let types = c.args.store.now.types in
+    let t = c.index-as_slice-from.result in
+    let q = c.requires.suits in
+    let same : t ≡ q.of = asked_type types c.as_slice.result.now a c.from.result t q c.as_slice.ensures.list c.from.ensures c.index-as_slice-from.is in
+    let rows = g.B.Sorted.rows c.args.store.now.table in
+    let s = c.requires.kept.0 in
+    let holds = c.requires.kept.1 in
+    let known = subst (λ u. (type_at u.number s ≡ Some u) × (u.number ≡ a.number)) (sym same) (type_known s types rows a q holds) in
+    let own = subst (λ u. IsTypeOf s u rows) (sym same) (type_of s q.of types rows holds (type_known s types rows a q holds).0) in
+    let planned = subst (λ (p : Planned). IsPlanned t a p) c.in-Parts.is c.in_ok-code.ensures in
+    let keeps = subst (λ ps. Keeps s t.number (tests_of (map chosen_of ps)) keeping.Rows c.in_ok-read-in-Parts.read.rows) c.as_slice-in-Parts.ensures (c.in_ok-read-in-Parts.ensures.found s own) in
+    (answer a.number a.wanted s, rows_are c.parts_find_all.ensures s a t c.in-Parts.plan c.in-Parts.target c.in_ok-read-in-Parts.read.rows types rows holds known.0 known.1 planned keeps)
+
+pub returns-in_ok-printed-in-Parts : goal.returns-in_ok-printed-in-Parts
+returns-in_ok-printed-in-Parts g c = λ s holds.
     let a = asked_by c.args.ask.now in
     let types = c.args.store.now.types in
     let t = c.index-as_slice-from.result in
@@ -64,8 +95,8 @@ returns-in_ok-features-in-Parts g c = λ s holds.
     let planned = subst (λ (p : Planned). IsPlanned t a p) c.in-Parts.is c.in_ok-code.ensures in
     let read = c.in_ok-read-in-Parts.read in
     let plan_is = c.as_slice-in-Parts.ensures in
-    let collects = subst (λ ps. Collects s t.number (tests_of (map chosen_of ps)) read.found.values.entries) plan_is (c.in_ok-read-in-Parts.ensures.found s own) in
+    let keeps = subst (λ ps. Keeps s t.number (tests_of (map chosen_of ps)) keeping.Rows read.rows) plan_is (c.in_ok-read-in-Parts.ensures.found s own) in
     let examined = subst (λ ps. (read.examined ≡ rows_examined t c.in-Parts.target (rows_of s) (map chosen_of ps))
-    × (g.B.Tally.Counter.number c.read_plan.new.tally ≡ capped_sum (g.B.Tally.Counter.number c.args.tally.now) read.examined)) plan_is (c.in_ok-read-in-Parts.ensures.examined s own) in
-    query_reply c.parts_find_all.ensures s a t c.in-Parts.plan c.in-Parts.target read.found.values.entries c.in_ok-features-in-Parts.features read.examined
-    (g.B.Tally.Counter.number c.args.tally.now) (g.B.Tally.Counter.number c.read_plan.new.tally) types rows holds known.0 known.1 planned collects c.in_ok-features-in-Parts.ensures examined
+    × (g.B.Tally.Counter.number c.read_rows.new.tally ≡ capped_sum (g.B.Tally.Counter.number c.args.tally.now) read.examined)) plan_is (c.in_ok-read-in-Parts.ensures.examined s own) in
+    query_reply c.parts_find_all.ensures s a t c.in-Parts.plan c.in-Parts.target read.rows c.in_ok-printed-in-Parts.printed.rows c.in_ok-printed-in-Parts.printed.matched read.examined
+    (g.B.Tally.Counter.number c.args.tally.now) (g.B.Tally.Counter.number c.read_rows.new.tally) types rows holds known.0 known.1 planned keeps c.in_ok-printed-in-Parts.ensures examined
