@@ -1,6 +1,7 @@
 #!/bin/sh
 # Copies the repository to a folder of its own, adds the program FOLDER/main.txt there as the crate NAME
-# over these libraries, and proves, builds and runs it. The program stays in crates/NAME/out of the copy.
+# over these libraries, with FOLDER/proofs if it is there, and proves, builds and runs it. The program
+# stays in crates/NAME/out of the copy.
 # Usage: bench/run_copied.sh FOLDER NAME LIBRARIES COPY
 set -e
 top=$(cd "$(dirname "$0")/.." && pwd)
@@ -12,6 +13,7 @@ mkdir -p "$crate/src" "$crate/specs" "$crate/proofs"
 cp "$1/main.txt" "$crate/src/main.rt"
 : > "$crate/specs/Lib.antt"
 : > "$crate/proofs/Lib.antt"
+if [ -d "$1/proofs" ]; then cp -r "$1/proofs/." "$crate/proofs/"; fi
 echo "$2: $3" >> "$copy/crates.txt"
 cd "$crate"
 exec rt run

@@ -11,6 +11,7 @@ for rows in 100000 1000000; do
     for table in map blocks; do
         echo "$table:"
         "$program" $table $rows
+        "$program" $table $rows puts batches
         if [ -x /usr/bin/time ]; then
             /usr/bin/time -f '%M KiB' "$program" $table $rows puts
         fi
