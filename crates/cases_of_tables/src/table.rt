@@ -261,8 +261,8 @@ fn spanned<B: Sorted<Tally = Tally>>(
     told(alloc, &writer, answer, tally.close())
 }
 
-// So many rows, put in by as many batches, over the map and over blocks, and how many blocks are left
-// where all are taken out again.
+// So many rows, put in by as many batches, over the map and over blocks, and how many blocks are
+// left where all are taken out again.
 fn rows(alloc: Global, count: u64) -> Result<String, NoMemory> {
     let mut over_map = MapTable::new(alloc);
     let one = replayed(alloc, &mut over_map, count)?;

@@ -2,11 +2,6 @@
 use Rattle.std.proofs.Common.{◌≡◌, Bool, true, false, ◌&&◌, ◌||◌, List, [], ◌∷◌, length, refl, arith}
 use Rattle.std.specs.Prelude.{T}
 
--- two tests that both passed
-pub both_of : (a b : Bool) → (a && b) ≡ true → (a ≡ true) × (b ≡ true)
-both_of true b passed = (refl, passed)
-both_of false b passed = cc
-
 pub both_from : (a b : Bool) → a ≡ true → b ≡ true → (a && b) ≡ true
 both_from true b one other = other
 both_from false b one other = cc

@@ -1,5 +1,6 @@
 // A list of spans of keys, in one buffer.
-ghost use Rattle.std.specs.Prelude.{◌≡◌, ◌<◌, ◌≤◌, ◌++◌, ◌∷◌, ◌↔◌, [], length, take, slice_range, slice_index_or, IsTrue, IfOk, OnOk, OnErr};
+ghost use Rattle.std.specs.Prelude.{◌≡◌, ◌<◌, ◌≤◌, ◌++◌, ◌∷◌, ◌↔◌, [], length, take, slice_range};
+ghost use Rattle.std.specs.Prelude.{slice_index_or, IsTrue, IfOk, OnOk, OnErr};
 ghost use Rattle.gm_base.specs.Spans.{Span, joined, AreEnds, spans_from, start_at};
 
 use crate::prefix::append_first;
@@ -155,8 +156,8 @@ fn push_span(
     Ok(())
 }
 
-// Appends the bytes of a span whose ends have the same bytes in front, and where its ends stop. Where
-// there is no memory, further bytes may stay in the buffer.
+// Appends the bytes of a span whose ends have the same bytes in front, and where its ends stop.
+// Where there is no memory, further bytes may stay in the buffer.
 fn push_prefixed<const N: usize>(
     bytes: &mut Vec<u8>,
     ends: &mut Vec<Ends>,

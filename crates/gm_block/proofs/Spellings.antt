@@ -10,9 +10,6 @@ use Rattle.gm_table.specs.declared.row.Row.{Row}
 use Rattle.gm_block.specs.Parts.{part_bytes, row_bytes, rows_bytes, IsShort}
 use Rattle.gm_block.specs.Block.{AreRows}
 
-pub number-length : (n : ℕ) → length (to_be_bytes w32 n) ≡ 4
-number-length n = refl
-
 -- two lists laid end to end, whose first parts are as long
 same_front : (xs ys us vs : List ℕ) → xs ++ ys ≡ us ++ vs → length xs ≡ length us → (xs ≡ us) × (ys ≡ vs)
 same_front xs ys us vs whole long = (
@@ -60,11 +57,6 @@ rows_bytes-push (first ∷ rows) row = ap (λ later. row_bytes first ++ later) (
 pub short-push : (rows : List Row) (row : Row) → AllByRecursion IsShort rows → IsShort row → AllByRecursion IsShort (rows ++ row ∷ [])
 short-push [] row short here = (here, tt)
 short-push (first ∷ rows) row short here = (short.0, short-push rows row short.1 here)
-
-pub short_at : (rows : List Row) (i : ℕ) (row : Row) → AllByRecursion IsShort rows → i < length rows → row ≡ get_or rows i row → IsShort row
-short_at [] i row short inside is = absurd (omega arith)
-short_at (first ∷ rows) zero row short inside is = subst IsShort (sym is) short.0
-short_at (first ∷ rows) (suc i) row short inside is = short_at rows i row short.1 (omega arith) is
 
 pub rows_bytes-more : (rows : List Row) (i : ℕ) (row : Row) → i < length rows → row ≡ get_or rows i row → rows_bytes (take (i + 1) rows) ≡ rows_bytes (take i rows) ++ row_bytes row
 rows_bytes-more rows i row inside is =

@@ -3,8 +3,8 @@ use Rattle.std.proofs.Common.{◌≡◌, Bool, true, false, ◌||◌, if◌then�
 use Rattle.std.specs.Option.{IsSome}
 use Rattle.std.specs.List.{list_any}
 use Rattle.std.proofs.lemmas.Int.{ints, clamps}
-use Rattle.gm_geom.specs.declared.place.Point.{Point}
-use Rattle.gm_geom.specs.declared.place.Box2.{Box2}
+use Rattle.gm_geom.specs.declared.point.Point.{Point}
+use Rattle.gm_geom.specs.declared.point.Box2.{Box2}
 use Rattle.gm_geom.specs.declared.geometry.Geometry.{Geometry}
 use Rattle.gm_geom.specs.declared.geometry.Geometry.TheVariants as geo
 use Rattle.gm_geom.specs.declared.validity.GeomFault.TheVariants.{Many, Range, Short, Ring}

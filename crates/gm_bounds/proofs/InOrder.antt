@@ -39,23 +39,10 @@ turned Less h = absurd (true≢false h)
 turned Equal h = absurd (true≢false h)
 turned Greater h = refl
 
--- what does not stand before the other stands behind it
-pub le_other : (a b : Bytes) → le a b ≡ false → le b a ≡ true
-le_other a b h = ap is_le (nat_list_cmp_total.antisymm b a) ∙ turned (C a b) h
-
-lt_le : (o : Ordering) → is_lt o ≡ true → is_le (ordering_reverse o) ≡ false
-lt_le Less h = refl
-lt_le Equal h = absurd (true≢false (sym h))
-lt_le Greater h = absurd (true≢false (sym h))
-
 not_lt_le : (o : Ordering) → is_lt o ≡ false → is_le (ordering_reverse o) ≡ true
 not_lt_le Less h = absurd (true≢false h)
 not_lt_le Equal h = refl
 not_lt_le Greater h = refl
-
--- a stands before b: then b does not before a
-pub less_not : (a b : Bytes) → is_less a b ≡ true → le b a ≡ false
-less_not a b h = ap is_le (nat_list_cmp_total.antisymm b a) ∙ lt_le (C a b) h
 
 pub not_less : (a b : Bytes) → is_less a b ≡ false → le b a ≡ true
 not_less a b h = ap is_le (nat_list_cmp_total.antisymm b a) ∙ not_lt_le (C a b) h

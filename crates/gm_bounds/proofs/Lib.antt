@@ -9,7 +9,6 @@ pub mod InSpace
 pub mod InTime
 pub mod InValues
 pub mod Keeping
-pub mod Keeps
 pub mod Members
 pub mod OneForms
 pub mod Sound

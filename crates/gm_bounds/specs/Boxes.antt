@@ -1,6 +1,6 @@
 -- The boxes of a filter: where the default geometry is to be looked for.
 use Rattle.std.specs.Prelude.{ℕ, Bool, [], Option, Some, None}
-use Rattle.gm_geom.specs.declared.place.Box2.{Box2}
+use Rattle.gm_geom.specs.declared.point.Box2.{Box2}
 use Rattle.gm_geom.specs.declared.geometry.Geometry.{Geometry}
 use Rattle.gm_geom.specs.Geometry.{points_of}
 use Rattle.gm_geom.specs.Extent.{extent_of}

@@ -1,7 +1,7 @@
 -- Boxes as members of a bound, and what is found in one.
 use Rattle.std.specs.Prelude.{Bool, false, ◌&&◌, ◌||◌, int_lt, int_le, Option, Some, None}
-use Rattle.gm_geom.specs.declared.place.Point.{Point}
-use Rattle.gm_geom.specs.declared.place.Box2.{Box2}
+use Rattle.gm_geom.specs.declared.point.Point.{Point}
+use Rattle.gm_geom.specs.declared.point.Box2.{Box2}
 use Rattle.gm_geom.specs.declared.geometry.Geometry.{Geometry}
 use Rattle.gm_geom.specs.declared.geometry.Geometry.TheVariants as geo
 use Rattle.gm_geom.specs.Geometry.{points_of}

@@ -1,6 +1,7 @@
 // Bins: the numbers of the periods that follow one another from 1970 on.
 ghost use Rattle.std.specs.Prelude.{◌≡◌, ◌↔◌, ℕ, ℤ, ◌<◌, ◌≤◌, ◌<ℤ◌, ◌≤ℤ◌, IfSome, MatchOption};
-ghost use Rattle.gm_calendar.specs.Bin.{first_ms, last_ms, bin_at, HasNumber, LiesIn, IsBinOf, IsNotAfter, HasNoBin};
+ghost use Rattle.gm_calendar.specs.Bin.{first_ms, last_ms, bin_at, HasNumber, LiesIn};
+ghost use Rattle.gm_calendar.specs.Bin.{IsBinOf, IsNotAfter, HasNoBin};
 ghost use Rattle.gm_calendar.specs.declared.bin.Bin.{Bin};
 ghost use Rattle.gm_calendar.specs.Period.{last_of, longest_of};
 

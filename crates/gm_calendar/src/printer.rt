@@ -1,11 +1,14 @@
 // Instants printed as text.
-ghost use Rattle.std.specs.Prelude.{◌≡◌, ◌+◌, ◌*◌, ◌<◌, [], ◌∷◌, ◌++◌, take, ℤ, true, Some, IfOk, OnOk};
+ghost use Rattle.std.specs.Prelude.{◌≡◌, ◌+◌, ◌*◌, ◌<◌, [], ◌∷◌, ◌++◌};
+ghost use Rattle.std.specs.Prelude.{take, ℤ, true, Some, IfOk, OnOk};
 ghost use Rattle.std.specs.List.{list_all};
 ghost use Rattle.std.specs.String.{string_bytes};
 ghost use Rattle.gm_calendar.specs.Calendar.{days_of_year, span_at};
 ghost use Rattle.gm_calendar.specs.Instant.{day_ms, IsInstant};
 ghost use Rattle.gm_calendar.specs.Parts.{SpellsInstant};
-ghost use Rattle.gm_calendar.specs.Spelling.{two_digits, ms_since_0000, day_text, date_text, second_text, time_text, instant_text, instant_of, is_instant_byte, has_date_form};
+ghost use Rattle.gm_calendar.specs.Spelling.{two_digits, ms_since_0000, day_text, date_text};
+ghost use Rattle.gm_calendar.specs.Spelling.{second_text, time_text, instant_text, instant_of};
+ghost use Rattle.gm_calendar.specs.Spelling.{is_instant_byte, has_date_form};
 
 use crate::Instant;
 use crate::calendar::{DAY_MS, date_from_0000};

@@ -3,7 +3,9 @@ ghost use Rattle.std.specs.Prelude.{◌≡◌, ◌^◌, ◌<◌, ◌≤◌, leng
 ghost use Rattle.std.specs.Char.{is_ascii_digit};
 ghost use Rattle.std.specs.List.{prefix_len};
 ghost use Rattle.jiff.specs.Words.{IsWithin};
-ghost use Rattle.gm_calendar.specs.Spelling.{number_of, date_at, date_of, clock_of, second_of, digit_at, fraction_of, zone_of, behind_seconds, behind_minutes, behind_date, instant_of};
+ghost use Rattle.gm_calendar.specs.Spelling.{number_of, date_at, date_of, clock_of, second_of};
+ghost use Rattle.gm_calendar.specs.Spelling.{digit_at, fraction_of, zone_of, behind_seconds};
+ghost use Rattle.gm_calendar.specs.Spelling.{behind_minutes, behind_date, instant_of};
 
 use crate::Instant;
 use crate::calendar::DAY_MS;

@@ -1,5 +1,6 @@
 // The XZ code.
-ghost use Rattle.std.specs.Prelude.{◌≡◌, ◌≤◌, ◌<◌, ◌+◌, ◌-◌, ◌*◌, ◌^◌, ◌⊎◌, ◌↔◌, ℕ, List, Some, length, All, IsTrue, slice_get, slice_index};
+ghost use Rattle.std.specs.Prelude.{◌≡◌, ◌≤◌, ◌<◌, ◌+◌, ◌-◌, ◌*◌, ◌^◌, ◌⊎◌, ◌↔◌, ℕ, List};
+ghost use Rattle.std.specs.Prelude.{Some, length, All, IsTrue, slice_get, slice_index};
 ghost use Rattle.std.specs.Int.{bit_at};
 ghost use Rattle.gm_curve.specs.Curve.{IsAtMost, bits_at};
 ghost use Rattle.gm_curve.specs.Listing.{IsSequence, listing, place_in, sequence_count};

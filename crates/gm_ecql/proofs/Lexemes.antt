@@ -68,10 +68,6 @@ pub unspaced_tokens : (ls : List Lexeme) → unspaced (spaced_of ls) ≡ tokens_
 unspaced_tokens [] = refl
 unspaced_tokens (l ∷ ls) = ap (λ z. l.token ∷ z) (unspaced_tokens ls)
 
-lead_blank : (b : Bool) → list_all is_blank (lead b) ≡ true
-lead_blank true = refl
-lead_blank false = refl
-
 -- lexemes spell their tokens
 pub lexed : (ls : List Lexeme) → AreSpelled ls → Spells (text_of ls) (spaced_of ls)
 lexed [] p = refl

@@ -89,9 +89,6 @@ pub record Keeps (text rest : List ℕ) (front : List (Bool × Seen)) : Type 0 w
   pub found : (ts : List (Bool × Seen)) → Spells rest ts → Spells text (front ++ ts)
   pub only : (ts : List (Bool × Seen)) → Spells text ts → Rest front rest ts
 
-pub keeps_start : (text : List ℕ) → Keeps text text []
-keeps_start text = record { found = λ ts s. s; only = λ ts s. record { more = ts; same = refl; spelled = s } }
-
 positive : (n : ℕ) → nat_lt 0 (suc n) ≡ true
 positive n = grind (arith, nat_tests)
 

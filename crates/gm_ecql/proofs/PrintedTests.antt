@@ -9,8 +9,8 @@ use mir.Val.{SFits}
 use Rattle.gm_calendar.specs.Instant.{is_instant}
 use Rattle.gm_calendar.specs.Spelling.{instant_text}
 use Rattle.gm_geom.specs.declared.geometry.Geometry.{Geometry}
-use Rattle.gm_geom.specs.declared.place.Box2.{Box2}
-use Rattle.gm_geom.specs.declared.place.Point.{Point}
+use Rattle.gm_geom.specs.declared.point.Box2.{Box2}
+use Rattle.gm_geom.specs.declared.point.Point.{Point}
 use Rattle.gm_geom.specs.Number.{fixed_of, fixed_text}
 use Rattle.gm_geom.specs.Validity.{fault_of, is_in_world}
 use Rattle.gm_wkt.specs.Answer.{answer_of}

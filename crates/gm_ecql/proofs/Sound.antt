@@ -160,9 +160,6 @@ some_number a b e = cc
 no_place : {P : Type 0} (n : ℕ) → ◌≡◌ {A = Option ℕ} None (Some n) → P
 no_place n e = absurd (cc)
 
-doubled_quote : (b : ℕ) (bs : List ℕ) → (b == 39) ≡ true → doubled (b ∷ bs) ≡ 39 ∷ 39 ∷ doubled bs
-doubled_quote b bs e = ap (λ t. cond t (39 ∷ 39 ∷ doubled bs) (b ∷ doubled bs)) e
-
 doubled_other : (b : ℕ) (bs : List ℕ) → (b == 39) ≡ false → doubled (b ∷ bs) ≡ b ∷ doubled bs
 doubled_other b bs e = ap (λ t. cond t (39 ∷ 39 ∷ doubled bs) (b ∷ doubled bs)) e
 

@@ -42,14 +42,6 @@ chose (Some x) f other z h = inl (x, refl, h)
 pub both_are : {A B : Type 0} (x y : A) (r s : B) → ◌≡◌ {A = A × B} (x, r) (y, s) → (x ≡ y) × (r ≡ s)
 both_are x y r s e = (ap (λ p. p.0) e, ap (λ p. p.1) e)
 
--- a token, and what follows it
-pub headed : {A : Type 0} (token : A → Seen) (ts : List Seen) (r : A × List Seen) (x : A) (rest : List Seen)
-    → ts ≡ token r.0 ∷ r.1 → r ≡ (x, rest) → ts ≡ token x ∷ rest
-headed token ts r x rest h e = h ∙ ap (λ p. token p.0 ∷ p.1) e
-
-truth_token : Bool → Seen
-truth_token b = literal_token (of_truth b)
-
 truth_first : (ts : List Seen) (r : Bool × List Seen) → truth_at ts ≡ Some r → ts ≡ literal_token (of_truth r.0) ∷ r.1
 truth_first ts r h = elim (chose (after_keyword keyword.True ts) _ _ _ h) [
   | inl c ↦

@@ -24,10 +24,6 @@ use Rattle.gm_ecql.specs.Reading.{Reader, ◌>>=◌, or_else, after_keyword, aft
 use Rattle.gm_ecql.specs.Tokens.{Seen, seen, seen_all}
 use Rattle.gm_ecql.proofs.Pending.{Pending, pending_fails}
 
-pub halts_map : {A B : Type 0} (f : A → B) (o : Option A) (e : Halt) → Halts o e → Halts (option_map f o) e
-halts_map f o halt.Syntax h = ap (option_map f) h
-halts_map f o halt.NoMemory h = tt
-
 pub halts_then : {A B : Type 0} (f : A → Option B) (o : Option A) (e : Halt) → Halts o e → Halts (o >>= f) e
 halts_then f o halt.Syntax h = ap (λ z. z >>= f) h
 halts_then f o halt.NoMemory h = tt
@@ -36,10 +32,6 @@ halts_then f o halt.NoMemory h = tt
 pub halts_some : {A B : Type 0} (x : A) (o : Option B) (e : Halt) → Halts (Some x) e → Halts o e
 halts_some x o halt.Syntax h = absurd (cc)
 halts_some x o halt.NoMemory h = tt
-
-pub halts_as : {A : Type 0} (o p : Option A) (e : Halt) → p ≡ o → Halts o e → Halts p e
-halts_as o p halt.Syntax s h = s ∙ h
-halts_as o p halt.NoMemory s h = tt
 
 pub seen_length : (ts : List Spaced) → length (seen_all ts) ≡ length ts
 seen_length [] = refl
@@ -118,9 +110,6 @@ pushed new old f h = ap (map tree) h ∙ map_push old f
 
 pub pushed_first : (new old : List Filter) (f : Filter) → new ≡ old ++ f ∷ [] → old ≡ [] → map tree new ≡ tree f ∷ []
 pushed_first new old f h e = ap (map tree) (h ∙ ap (λ z. z ++ f ∷ []) e)
-
-pub tree_not : (b : Box Filter Global) → tree (variant.Not b) ≡ negated (tree b.value)
-tree_not b = ap tree (sym (variant.rolls-Not b)) ∙ fold-roll-Filter Tree layer (open_filter.Not b)
 
 pub tree_intersects : (a : ℕ) (g : Geometry) → tree (variant.Intersects a g) ≡ intersects a g
 tree_intersects a g = ap tree (sym (variant.rolls-Intersects a g)) ∙ fold-roll-Filter Tree layer (open_filter.Intersects a g)

@@ -3,8 +3,8 @@
 use Rattle.std.specs.Prelude.{ℕ, ◌==◌, Bool, true, false, if◌then◌else◌, List, [], ◌∷◌, ◌++◌, codes, ℤ, Option, Some, None}
 use Rattle.std.specs.Fmt.{signed_decimal}
 use Rattle.gm_geom.specs.declared.geometry.Geometry.{Geometry}
-use Rattle.gm_geom.specs.declared.place.Box2.{Box2}
-use Rattle.gm_geom.specs.declared.place.Point.{Point}
+use Rattle.gm_geom.specs.declared.point.Box2.{Box2}
+use Rattle.gm_geom.specs.declared.point.Point.{Point}
 use Rattle.gm_geom.specs.Number.{fixed_text}
 use Rattle.gm_wkt.specs.Printing as wkt
 use Rattle.gm_calendar.specs.Spelling.{instant_text}

@@ -2,7 +2,8 @@
 ghost use Rattle.std.specs.Prelude.{◌≡◌, option_map, IfErr, IfOk};
 ghost use Rattle.gm_types.specs.Specification.{kind_at};
 ghost use Rattle.gm_ecql.specs.Change as spec;
-ghost use Rattle.gm_ecql.specs.Change.{JudgedChange, SpellsChangeJudged, assigned_seen, change_seen, given_seen};
+ghost use Rattle.gm_ecql.specs.Change.{JudgedChange, SpellsChangeJudged, assigned_seen};
+ghost use Rattle.gm_ecql.specs.Change.{change_seen, given_seen};
 ghost use Rattle.gm_ecql.specs.Halt.{Gives, Passes};
 ghost use Rattle.gm_ecql.specs.Test.{constant_seen};
 ghost use Rattle.gm_ecql.specs.Tokens.{seen_all};

@@ -1,5 +1,6 @@
 // Filters to texts.
-ghost use Rattle.std.specs.Prelude.{◌≡◌, ◌++◌, ◌∷◌, ℕ, List, map, true, option_map, slice_get, encode_utf8_all, IfOk, OnOk};
+ghost use Rattle.std.specs.Prelude.{◌≡◌, ◌++◌, ◌∷◌, ℕ, List, map, true, option_map};
+ghost use Rattle.std.specs.Prelude.{slice_get, encode_utf8_all, IfOk, OnOk};
 ghost use Rattle.std.specs.String.{string_bytes};
 ghost use Rattle.std.specs.Fmt.{signed_decimal};
 ghost use Rattle.gm_calendar.specs.Spelling.{instant_text};

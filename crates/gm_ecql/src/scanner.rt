@@ -1,5 +1,6 @@
 // Text to tokens.
-ghost use Rattle.std.specs.Prelude.{◌≡◌, List, Bool, ◌∷◌, [], IfOk, IfErr, map, option_map, MatchOption};
+ghost use Rattle.std.specs.Prelude.{◌≡◌, List, Bool, ◌∷◌, [], IfOk, IfErr};
+ghost use Rattle.std.specs.Prelude.{map, option_map, MatchOption};
 ghost use Rattle.gm_ecql.specs.Tokens.{Seen, Spells, SpellsTokens, seen, seen_spaced};
 ghost use Rattle.gm_ecql.specs.Scanning as spec;
 ghost use Rattle.gm_ecql.specs.Halt.{Gives};

@@ -246,11 +246,6 @@ follows keys entries s n t id new state typed fits key =
           | false ↦ λ isnt. by_old (Some f) step isnt
         ] refl
 
--- ---- a further type
-more_types : (s : State) (t : Specification) → types_of (with_type t s) ≡ types_of s ++ t ∷ []
-more_types [] t = refl
-more_types (c ∷ s) t = ap (λ types. c.specification ∷ types) (more_types s t)
-
 same_features : (s : State) (t : Specification) (n : ℕ) → features_of n (with_type t s) ≡ features_of n s
 same_features [] t zero = refl
 same_features [] t (suc n) = refl

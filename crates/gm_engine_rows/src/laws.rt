@@ -1,6 +1,7 @@
 // Laws of the rows of a state, for proofs. Each is the contract of a function that does nothing but
 // call those that it rests on.
-ghost use Rattle.std.specs.Prelude.{All, ◌≡◌, ◌+◌, ◌++◌, ℕ, List, Option, Some, None, true, map, length, slice_get, IsTrue};
+ghost use Rattle.std.specs.Prelude.{All, ◌≡◌, ◌+◌, ◌++◌, ℕ, List, Option, Some};
+ghost use Rattle.std.specs.Prelude.{None, true, map, length, slice_get, IsTrue};
 ghost use Rattle.std.specs.Option.{ForSome};
 ghost use Rattle.gm_table.specs.declared.row.Row.{Row};
 ghost use Rattle.gm_table.specs.Batch.{are_distinct, applied_at};
@@ -10,10 +11,12 @@ ghost use Rattle.gm_types.specs.FeatureType.{IsType};
 ghost use Rattle.gm_types.specs.Specification.{Specification};
 ghost use Rattle.gm_types.specs.Words.{are_distinct as are_apart};
 ghost use Rattle.gm_feature.specs.declared.feature.Feature.{Feature};
-ghost use Rattle.gm_engine_rows.specs.State.{State, IsState, IsHeld, types_of, type_at, feature_at, changed_in, with_type};
+ghost use Rattle.gm_engine_rows.specs.State.{State, IsState, IsHeld, types_of, type_at};
+ghost use Rattle.gm_engine_rows.specs.State.{feature_at, changed_in, with_type};
 ghost use Rattle.gm_engine_rows.specs.Rows.{rows_of, IsRow};
 ghost use Rattle.gm_engine_rows.specs.declared.exchange.Exchange.{Exchange};
-ghost use Rattle.gm_engine_rows.specs.Exchange.{IsExchangeIn, exchanged_at, exchanged_in, new_keys, old_keys, owners_of, puts_of_all, removes_of_all};
+ghost use Rattle.gm_engine_rows.specs.Exchange.{IsExchangeIn, exchanged_at, exchanged_in, new_keys};
+ghost use Rattle.gm_engine_rows.specs.Exchange.{old_keys, owners_of, puts_of_all, removes_of_all};
 ghost use Rattle.gm_engine_rows.specs.Change.{keys_at, removes_of, puts_of};
 
 use gm_keys::keys_tell_features_apart;
@@ -72,9 +75,9 @@ pub fn changes_keep_the_state()
         → ((m ≡ n) × (i ≡ id) → ⊥) → feature_at m i (changed_in n id new s) ≡ feature_at m i s }
 {}
 
-/// Where several features of a type go or give their place to others, each of an identifier of its own,
-/// the change turns the rows of the state into those of the state after it, which are so many more as
-/// the new features have keys, and so many less as the old ones had.
+/// Where several features of a type go or give their place to others, each of an identifier of its
+/// own, the change turns the rows of the state into those of the state after it, which are so many
+/// more as the new features have keys, and so many less as the old ones had.
 pub fn rows_follow_exchanges()
     ensures rows { (s : State) (n : ℕ) (t : Specification) (exchanges : List Exchange) → IsState s
         → type_at n s ≡ Some t → All (IsExchangeIn s n t) exchanges
@@ -91,8 +94,8 @@ pub fn rows_follow_exchanges()
     rows_of_a_map();
 }
 
-/// After them the state is one, and of the same types; an identifier of that type has the last feature
-/// that it was given, if any, and every other type has what it had.
+/// After them the state is one, and of the same types; an identifier of that type has the last
+/// feature that it was given, if any, and every other type has what it had.
 pub fn exchanges_keep_the_state()
     ensures state { (s : State) (n : ℕ) (t : Specification) (exchanges : List Exchange)
         → IsState s → type_at n s ≡ Some t → All (IsExchangeIn s n t) exchanges

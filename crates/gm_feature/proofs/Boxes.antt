@@ -1,8 +1,8 @@
 -- The extent of a list of points is its least box.
 use Rattle.std.proofs.Common.{◌≡◌, List, [], ◌∷◌, Some, fold, subst, arith}
 use Rattle.std.proofs.lemmas.Int.{ints, clamps}
-use Rattle.gm_geom.specs.declared.place.Point.{Point}
-use Rattle.gm_geom.specs.declared.place.Box2.{Box2}
+use Rattle.gm_geom.specs.declared.point.Point.{Point}
+use Rattle.gm_geom.specs.declared.point.Box2.{Box2}
 use Rattle.gm_geom.specs.Extent.{IsInBox, IsBoxInside, HoldsAll, IsLeastBox, widened, extent_of, low_corner, high_corner}
 
 -- what the extent of some points and a box is

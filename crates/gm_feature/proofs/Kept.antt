@@ -6,7 +6,7 @@ use Rattle.std.proofs.lemmas.List.Concat.{flat_map-append}
 use Rattle.std.proofs.lemmas.List.Elements.{All-nil, All-cons}
 use Rattle.gm_geom.specs.declared.geometry.Geometry.{Geometry}
 use Rattle.gm_geom.specs.declared.geometry.Geometry.TheVariants as geo
-use Rattle.gm_geom.specs.declared.place.Point.{Point}
+use Rattle.gm_geom.specs.declared.point.Point.{Point}
 use Rattle.gm_geom.specs.declared.validity.GeomFault.{GeomFault}
 use Rattle.gm_geom.specs.declared.validity.GeomFault.TheVariants.{Many, Range, Short, Ring}
 use Rattle.gm_geom.specs.Geometry.{joined, points_of, lines_of, rings_of}

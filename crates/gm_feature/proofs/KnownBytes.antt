@@ -2,7 +2,7 @@
 use Rattle.std.proofs.Common.{◌≡◌, ℤ, pos, negsuc, true, false, [], ◌∷◌, refl}
 use Rattle.std.specs.Prelude.{codes}
 use Rattle.gm_geom.specs.declared.geometry.Geometry.TheVariants as geo
-use Rattle.gm_geom.specs.declared.place.Point.{Point}
+use Rattle.gm_geom.specs.declared.point.Point.{Point}
 use Rattle.gm_feature.specs.declared.value.Value.TheVariants as value
 use Rattle.gm_feature.specs.Spelling.{value_bytes, feature_bytes}
 

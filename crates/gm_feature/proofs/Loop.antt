@@ -34,12 +34,6 @@ ends {X = X} read Refused front count i bytes total lt h so_far =
     let one : with_front front (members_from read (count - i) bytes) ≡ nothing = rw (k, h) refl in
     sym so_far ∙ one
 
-pub is_done : {X : Type 0} (read : List ℕ → Option (X × List ℕ)) (front : List X) (count i : ℕ) (bytes : List ℕ) (total : Option (List X × List ℕ)) → count ≤ i → with_front front (members_from read (count - i) bytes) ≡ total → total ≡ Some (front, bytes)
-is_done {X = X} read front count i bytes total le so_far =
-    let k : count - i ≡ 0 = omega arith in
-    let one : with_front front (members_from read (count - i) bytes) ≡ Some (front, bytes) = rw k (ap (λ (xs : List X). Some (xs, bytes)) (append-nil front)) in
-    sym so_far ∙ one
-
 -- ---- a value for each attribute
 
 from_place : (attributes : List Attribute) (i : ℕ) (a : Attribute) → i < length attributes → drop i (kinds attributes) ≡ (get_or attributes i a).kind ∷ drop (suc i) (kinds attributes)

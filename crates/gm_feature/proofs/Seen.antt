@@ -9,8 +9,8 @@ use Rattle.std.proofs.lemmas.Int.{to_z-of_z}
 use Rattle.gm_calendar.specs.Instant.{is_instant, instant_at}
 use Rattle.gm_geom.specs.declared.geometry.Geometry.{Geometry}
 use Rattle.gm_geom.specs.declared.geometry.Geometry.TheVariants as geo
-use Rattle.gm_geom.specs.declared.place.Box2.{Box2}
-use Rattle.gm_geom.specs.declared.place.Point.{Point}
+use Rattle.gm_geom.specs.declared.point.Box2.{Box2}
+use Rattle.gm_geom.specs.declared.point.Point.{Point}
 use Rattle.gm_geom.specs.Extent.{widened, extent_of}
 use Rattle.gm_geom.specs.Geometry.{joined, points_of}
 use Rattle.gm_geom.specs.Validity.{fault_of, has_empty_list, is_empty, is_hollow}

@@ -8,7 +8,7 @@ use Rattle.std.proofs.lemmas.Bool.{eqb-true}
 use Rattle.std.proofs.lemmas.Grind.{common_steps}
 use Rattle.gm_geom.specs.declared.geometry.Geometry.{Geometry}
 use Rattle.gm_geom.specs.declared.geometry.Geometry.TheVariants as geo
-use Rattle.gm_geom.specs.declared.place.Point.{Point}
+use Rattle.gm_geom.specs.declared.point.Point.{Point}
 use Rattle.gm_geom.specs.Geometry.{joined}
 use Rattle.gm_geom.specs.Validity.{fault_of, is_within, is_in_world}
 use Rattle.gm_types.specs.declared.kind.GeoKind.{GeoKind}

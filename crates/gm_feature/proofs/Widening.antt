@@ -3,8 +3,8 @@ use Rattle.std.proofs.Common.{◌≡◌, ℕ, suc, ◌+◌, ◌-◌, ◌<◌, �
 use Rattle.std.specs.Option.{ForSome}
 use Rattle.std.proofs.lemmas.Grind.{fold-append}
 use Rattle.gm_geom.specs.declared.geometry.Geometry.{Geometry}
-use Rattle.gm_geom.specs.declared.place.Box2.{Box2}
-use Rattle.gm_geom.specs.declared.place.Point.{Point}
+use Rattle.gm_geom.specs.declared.point.Box2.{Box2}
+use Rattle.gm_geom.specs.declared.point.Point.{Point}
 use Rattle.gm_geom.specs.Extent.{widened, extent_of}
 use Rattle.gm_geom.specs.Geometry.{joined, points_of}
 use Rattle.gm_feature.specs.Reading.{◌>>=◌, made, members_from, body_from}

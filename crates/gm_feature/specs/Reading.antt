@@ -6,7 +6,7 @@ use Rattle.gm_base.specs.Identifier.{is_identifier}
 use Rattle.gm_calendar.specs.Instant.{is_instant}
 use Rattle.gm_geom.specs.declared.geometry.Geometry.{Geometry}
 use Rattle.gm_geom.specs.declared.geometry.Geometry.TheVariants as geo
-use Rattle.gm_geom.specs.declared.place.Point.{Point}
+use Rattle.gm_geom.specs.declared.point.Point.{Point}
 use Rattle.gm_geom.specs.Validity.{fault_of}
 use Rattle.gm_types.specs.declared.kind.GeoKind.{GeoKind}
 use Rattle.gm_types.specs.declared.kind.Kind.{Kind}

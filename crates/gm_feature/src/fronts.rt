@@ -1,9 +1,10 @@
-// Fields at the front of bytes, and the bytes behind them. Of bytes that spell no such field nothing
-// is said.
+// Fields at the front of bytes, and the bytes behind them. Of bytes that spell no such field
+// nothing is said.
 ghost use Rattle.std.specs.Prelude.{◌≡◌};
 ghost use Rattle.std.specs.Int.{w16, w32, w64};
 ghost use Rattle.std.specs.Option.{ForSome};
-ghost use Rattle.gm_feature.specs.Reading.{number_from, signed_from, string_from, count_from, point_from};
+ghost use Rattle.gm_feature.specs.Reading.{number_from, signed_from, string_from};
+ghost use Rattle.gm_feature.specs.Reading.{count_from, point_from};
 
 use gm_geom::Point;
 

@@ -1,11 +1,13 @@
 // Laws of the definitions, for the crates above.
 ghost use Rattle.std.specs.Int.{w16};
-ghost use Rattle.std.specs.Prelude.{◌≡◌, ◌<◌, ◌^◌, ◌++◌, ℕ, ℤ, List, true, length, Some, is_some, IsUtf8};
+ghost use Rattle.std.specs.Prelude.{◌≡◌, ◌<◌, ◌^◌, ◌++◌, ℕ, ℤ, List, true};
+ghost use Rattle.std.specs.Prelude.{length, Some, is_some, IsUtf8};
 ghost use Rattle.gm_base.specs.Identifier.{is_identifier};
 ghost use Rattle.gm_calendar.specs.Bin.{bin_at};
 ghost use Rattle.gm_types.specs.declared.kind.Kind.{Kind};
 ghost use Rattle.gm_types.specs.FeatureType.{IsType};
-ghost use Rattle.gm_types.specs.Specification.{Specification, kinds_of, kind_at, default_date_of, period_of};
+ghost use Rattle.gm_types.specs.Specification.{Specification, kinds_of, kind_at};
+ghost use Rattle.gm_types.specs.Specification.{default_date_of, period_of};
 ghost use Rattle.gm_feature.specs.declared.feature.Feature.{Feature};
 ghost use Rattle.gm_feature.specs.declared.stored.Stored.{Stored};
 ghost use Rattle.gm_feature.specs.declared.value.Value.TheVariants.{Date, Text};

@@ -1,5 +1,6 @@
 // Bytes to geometries.
-ghost use Rattle.gm_feature.specs.Reading.{Gives, geometry_from, body_from, members_from, point_from, points_from, lines_from, areas_from};
+ghost use Rattle.gm_feature.specs.Reading.{Gives, geometry_from, body_from, members_from};
+ghost use Rattle.gm_feature.specs.Reading.{point_from, points_from, lines_from, areas_from};
 
 use crate::halt::Halt;
 use crate::number::{count_of, i32_of};

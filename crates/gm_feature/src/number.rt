@@ -1,6 +1,7 @@
 // Numbers, counts and strings of bytes.
 ghost use Rattle.std.specs.Int.{w16, w32, w64};
-ghost use Rattle.gm_feature.specs.Reading.{Gives, number_from, signed_from, string_from, count_from};
+ghost use Rattle.gm_feature.specs.Reading.{Gives, number_from, signed_from};
+ghost use Rattle.gm_feature.specs.Reading.{string_from, count_from};
 
 use crate::halt::Halt;
 

@@ -2,7 +2,9 @@
 ghost use Rattle.std.specs.Prelude.{◌≡◌, Some, None, IfOk, IfSome, IfNone, map};
 ghost use Rattle.gm_feature.specs.declared.feature.Feature.{Feature};
 ghost use Rattle.gm_feature.specs.Feature.{Fits};
-ghost use Rattle.gm_feature.specs.Reading.{Gives, feature_from, identifier_from, values_from, value_from, content_from, text_from, truth_from, instant_from};
+ghost use Rattle.gm_feature.specs.Reading.{Gives, feature_from, identifier_from, values_from};
+ghost use Rattle.gm_feature.specs.Reading.{value_from, content_from, text_from, truth_from};
+ghost use Rattle.gm_feature.specs.Reading.{instant_from};
 ghost use Rattle.gm_feature.specs.Spelling.{feature_bytes};
 
 use crate::fit::{dates_fit, has_text_form};

@@ -1,5 +1,6 @@
 // The bytes of features, read in place.
-ghost use Rattle.std.specs.Prelude.{◌≡◌, ◌++◌, ℕ, List, length, Some, None, false, IfNone, IfOk, IfSome};
+ghost use Rattle.std.specs.Prelude.{◌≡◌, ◌++◌, ℕ, List, length, Some, None};
+ghost use Rattle.std.specs.Prelude.{false, IfNone, IfOk, IfSome};
 ghost use Rattle.std.specs.Option.{ForSome};
 ghost use Rattle.gm_geom.specs.declared.geometry.Geometry.{Geometry as AnyGeometry};
 ghost use Rattle.gm_geom.specs.Extent.{extent_of};
@@ -9,7 +10,8 @@ ghost use Rattle.gm_types.specs.declared.kind.GeoKind.{GeoKind as AnyKind};
 ghost use Rattle.gm_feature.specs.declared.feature.Feature.{Feature};
 ghost use Rattle.gm_feature.specs.declared.value.Value.TheVariants as value;
 ghost use Rattle.gm_feature.specs.Feature.{value_at};
-ghost use Rattle.gm_feature.specs.Reading.{identifier_from, geometry_from, text_from, truth_from, instant_from, content_from, value_from};
+ghost use Rattle.gm_feature.specs.Reading.{identifier_from, geometry_from, text_from, truth_from};
+ghost use Rattle.gm_feature.specs.Reading.{instant_from, content_from, value_from};
 ghost use Rattle.gm_feature.specs.Spelling.{geometry_bytes};
 ghost use Rattle.gm_feature.specs.Stored.{IsStored, AreStored, Says, is_point};
 
@@ -70,8 +72,8 @@ impl<'a> Stored<'a> {
         short_string_at(bytes).0
     }
 
-    /// The value of the attribute with that number, from 0, and null where there is none. It takes no
-    /// memory, and the time of the values before it, whose points it doesn't read.
+    /// The value of the attribute with that number, from 0, and null where there is none. It takes
+    /// no memory, and the time of the values before it, whose points it doesn't read.
     pub fn value(&self, attribute: u16) -> StoredValue<'a>
         ensures { (f : Feature) → IsStored self.now f → Says result (value_at f attribute) }
     {

@@ -5,8 +5,8 @@ use Rattle.std.proofs.lemmas.Int.{ints}
 use Rattle.std.proofs.lemmas.Str.{IsUtf8-from_is_utf8}
 use Rattle.std.specs.Prelude.{int_le, ℤ}
 use Rattle.std.specs.Str.{IsUtf8, is_utf8}
-use Rattle.gm_geom.specs.declared.place.Point.{Point}
-use Rattle.gm_geom.specs.declared.place.Box2.{Box2}
+use Rattle.gm_geom.specs.declared.point.Point.{Point}
+use Rattle.gm_geom.specs.declared.point.Box2.{Box2}
 use Rattle.gm_geom.specs.declared.geometry.Geometry.{Geometry}
 use Rattle.gm_geom.specs.declared.geometry.Geometry.TheVariants as geo
 use Rattle.gm_geom.specs.Extent.{IsInBox}
@@ -56,14 +56,6 @@ pub point_meets : (p : Point) (b : Box2) → ((do_intersect (geo.Point p) (box_a
 point_meets p b meets = same_answer _ _ (λ over. meets.1 (in_where_overlapping p b over)) (λ met. overlapping_where_in p b (meets.0 met))
 
 -- ---- what is no point lies within nothing
-
-pub no_point_within : (g h : Geometry) → is_point g ≡ false → is_within (value.Geo g) h ≡ false
-no_point_within (geo.Point p) h many = absurd (true≢false many)
-no_point_within (geo.Line ps) h many = refl
-no_point_within (geo.Area rings) h many = refl
-no_point_within (geo.ManyPoints ps) h many = refl
-no_point_within (geo.ManyLines ls) h many = refl
-no_point_within (geo.ManyAreas areas) h many = refl
 
 -- ---- no geometry is one of some literals
 

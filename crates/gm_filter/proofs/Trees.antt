@@ -3,10 +3,6 @@ use Rattle.std.proofs.Common.{◌≡◌, ℕ, suc, List, [], ◌∷◌, length, 
 use Rattle.gm_filter.specs.declared.filter.Filter.{Filter}
 use Rattle.gm_filter.specs.Tree.{Tree, tree, trees_of, members_of}
 
-pub members_are : (ts : List Tree) → members_of (trees_of ts) ≡ ts
-members_are [] = refl
-members_are (t ∷ ts) = ap (λ us. t ∷ us) (members_are ts)
-
 pub length-trees : (fs : List Filter) → length (members_of (trees_of (map tree fs))) ≡ length fs
 length-trees [] = refl
 length-trees (f ∷ fs) = ap (λ n. suc n) (length-trees fs)

@@ -4,7 +4,7 @@ use Rattle.std.proofs.lemmas.Bool.{and_parts}
 use Rattle.std.proofs.lemmas.Int.{ints}
 use Rattle.std.specs.Prelude.{is_none, int_le, ◌≤ℤ◌, ℤ}
 use Rattle.std.specs.List.{slice_get}
-use Rattle.gm_geom.specs.declared.place.Box2.{Box2}
+use Rattle.gm_geom.specs.declared.point.Box2.{Box2}
 use Rattle.gm_geom.specs.declared.geometry.Geometry.{Geometry}
 use Rattle.gm_geom.specs.Validity.{fault_of, is_in_world}
 use Rattle.gm_geom.specs.declared.validity.GeomFault.{GeomFault}

@@ -1,6 +1,6 @@
 -- What trying a filter on a feature needs: values at the places that it names, and geometries that are kept.
 use Rattle.std.specs.Prelude.{◌≡◌, ◌≤ℤ◌, ℕ, ◌<◌, length, None}
-use Rattle.gm_geom.specs.declared.place.Box2.{Box2}
+use Rattle.gm_geom.specs.declared.point.Box2.{Box2}
 use Rattle.gm_geom.specs.declared.geometry.Geometry.{Geometry}
 use Rattle.gm_geom.specs.Validity.{fault_of}
 use Rattle.gm_feature.specs.declared.value.Value.{Value}

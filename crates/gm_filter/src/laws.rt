@@ -1,12 +1,13 @@
 // Laws of the truth of filters, for the crates above. Each is the contract of a function that does
 // nothing.
-ghost use Rattle.std.specs.Prelude.{◌≡◌, ◌&&◌, ◌++◌, not, true, false, Bool, ℕ, ℤ, List, Some, IsUtf8};
+ghost use Rattle.std.specs.Prelude.{◌≡◌, ◌&&◌, ◌++◌, not, true, false};
+ghost use Rattle.std.specs.Prelude.{Bool, ℕ, ℤ, List, Some, IsUtf8};
 ghost use Rattle.std.specs.List.{list_all, list_any};
 ghost use Rattle.std.specs.Ordering.{int_cmp, nat_cmp, bool_cmp, is_eq};
 ghost use Rattle.std.specs.Cmp.Lexicographic.{slice_cmp};
 ghost use Rattle.std.specs.Str.{bytes_eq};
-ghost use Rattle.gm_geom.specs.declared.place.Point.{Point};
-ghost use Rattle.gm_geom.specs.declared.place.Box2.{Box2};
+ghost use Rattle.gm_geom.specs.declared.point.Point.{Point};
+ghost use Rattle.gm_geom.specs.declared.point.Box2.{Box2};
 ghost use Rattle.gm_geom.specs.declared.geometry.Geometry.{Geometry};
 ghost use Rattle.gm_geom.specs.declared.geometry.Geometry.TheVariants as geo;
 ghost use Rattle.gm_shapes.specs.Meeting.{do_intersect, box_area};

@@ -2,8 +2,8 @@
 use Rattle.std.specs.Prelude.{◌≤ℤ◌, List, Option, None, Some, fold}
 use Rattle.std.specs.List.{AllByRecursion}
 use Rattle.std.specs.Int.{int_min, int_max}
-use Rattle.gm_geom.specs.declared.place.Point.{Point}
-use Rattle.gm_geom.specs.declared.place.Box2.{Box2}
+use Rattle.gm_geom.specs.declared.point.Point.{Point}
+use Rattle.gm_geom.specs.declared.point.Box2.{Box2}
 
 -- the point lies in the box, whose sides belong to it
 pub record IsInBox (box : Box2) (p : Point) : Type 0 where

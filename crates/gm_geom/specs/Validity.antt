@@ -2,7 +2,7 @@
 use Rattle.std.specs.Prelude.{ℕ, ◌&&◌, ◌||◌, Bool, true, false, not, nat_lt, nat_le, if◌then◌else◌, ℤ, pos, negsuc, List, [], ◌∷◌, length, Option, None, Some}
 use Rattle.std.specs.List.{list_all, list_any}
 use Rattle.std.specs.Ordering.{int_eq}
-use Rattle.gm_geom.specs.declared.place.Point.{Point}
+use Rattle.gm_geom.specs.declared.point.Point.{Point}
 use Rattle.gm_geom.specs.declared.geometry.Geometry.{Geometry}
 use Rattle.gm_geom.specs.declared.geometry.Geometry.TheVariants as geo
 use Rattle.gm_geom.specs.declared.validity.GeomFault.{GeomFault}

@@ -4,7 +4,8 @@ ghost use Rattle.std.specs.Int.{w32};
 ghost use Rattle.std.specs.List.{list_all};
 ghost use Rattle.gm_geom.specs.declared.number.Number.{Number};
 ghost use Rattle.gm_geom.specs.declared.number.NumberFault.TheVariants.{Form, Big};
-ghost use Rattle.gm_geom.specs.Number.{fixed_of, fixed_text, is_number_byte, number_of, rounded, SpellsNumber, SpellsFixed};
+ghost use Rattle.gm_geom.specs.Number.{fixed_of, fixed_text, is_number_byte, number_of};
+ghost use Rattle.gm_geom.specs.Number.{rounded, SpellsNumber, SpellsFixed};
 
 /// A text spells a number exactly where the function gives it, and so at most one. Its fixed
 /// number is the function's, and the two faults come where it spells none, or one that is too big.

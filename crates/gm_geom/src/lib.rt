@@ -5,7 +5,7 @@ mod extent;
 mod geometry;
 mod laws;
 mod number;
-mod place;
+mod point;
 mod printing;
 mod validity;
 
@@ -13,6 +13,6 @@ pub use extent::{bounds, high_corner, low_corner};
 pub use geometry::{Areas, Geometry, Lines, Points, Rings};
 pub use laws::{has_number_bytes, numbers_are_spelled, reads_back};
 pub use number::{NUMBER_LIMIT, NumberFault, read_fixed};
-pub use place::{Box2, Point};
+pub use point::{Box2, Point};
 pub use printing::{append_fixed, print_fixed};
 pub use validity::{GeomFault, POINT_LIMIT, check};

@@ -1,12 +1,15 @@
 // Fixed-point numbers: decimal text to whole units of 10^-7, and back.
-ghost use Rattle.std.specs.Prelude.{◌≡◌, ℕ, IfSome, ◌<◌, ◌≤◌, ◌+◌, ◌-◌, ◌*◌, ◌/◌, ◌^◌, ◌++◌, [], ◌∷◌, length, take, drop, true, MatchOption, IfOk, OnOk, IsTrue, ◌↔◌};
+ghost use Rattle.std.specs.Prelude.{◌≡◌, ℕ, IfSome, ◌<◌, ◌≤◌, ◌+◌, ◌-◌, ◌*◌, ◌/◌};
+ghost use Rattle.std.specs.Prelude.{◌^◌, ◌++◌, [], ◌∷◌, length, take, drop, true};
+ghost use Rattle.std.specs.Prelude.{MatchOption, IfOk, OnOk, IsTrue, ◌↔◌};
 ghost use Rattle.std.specs.String.{string_bytes};
 ghost use Rattle.std.specs.List.{list_all, prefix_len};
 ghost use Rattle.std.specs.Char.{is_ascii_digit};
 ghost use Rattle.std.specs.Str.Parse as parse;
 ghost use Rattle.std.specs.Str.Parse.{digits_value_after, without_leading_sign};
 ghost use Rattle.gm_geom.specs.Number as spec;
-ghost use Rattle.gm_geom.specs.Number.{digits_at, behind_digits, fraction_at, behind_fraction, AreDigits, Fits, IsCapped, nearest};
+ghost use Rattle.gm_geom.specs.Number.{digits_at, behind_digits, fraction_at, behind_fraction};
+ghost use Rattle.gm_geom.specs.Number.{AreDigits, Fits, IsCapped, nearest};
 
 use gm_base::{NoMemory, Text};
 use std::alloc::Global;

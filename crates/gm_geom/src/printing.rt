@@ -2,7 +2,8 @@
 ghost use Rattle.std.specs.Prelude.{◌≡◌, ◌<◌, ◌^◌, ◌++◌, ◌+◌, ◌/◌, [], ◌∷◌, IfOk, OnOk};
 ghost use Rattle.std.specs.String.{string_bytes};
 ghost use Rattle.std.specs.Fmt.{decimal};
-ghost use Rattle.gm_geom.specs.Number.{BeginsWith, fixed_text, fixed_of, fraction_text, minus_text, places_of};
+ghost use Rattle.gm_geom.specs.Number.{BeginsWith, fixed_text, fixed_of, fraction_text};
+ghost use Rattle.gm_geom.specs.Number.{minus_text, places_of};
 
 use gm_base::{NoMemory, Text};
 use std::alloc::Global;

@@ -1,5 +1,6 @@
 // Which geometries are kept.
-ghost use Rattle.std.specs.Prelude.{◌≡◌, ◌||◌, ◌^◌, ◌-◌, min, nat_lt, length, None, Some, MatchResult};
+ghost use Rattle.std.specs.Prelude.{◌≡◌, ◌||◌, ◌^◌, ◌-◌, min, nat_lt};
+ghost use Rattle.std.specs.Prelude.{length, None, Some, MatchResult};
 ghost use Rattle.std.specs.List.{list_all, list_any};
 ghost use Rattle.gm_geom.specs.Geometry.{joined, points_of, lines_of, rings_of};
 ghost use Rattle.gm_geom.specs.Validity as spec;

@@ -28,7 +28,7 @@ use Rattle.gm_feature.specs.Value.{value_fits, is_no_zero, is_below}
 use Rattle.gm_lexi.specs.Lexicode.{int_bytes, long_bytes, date_bytes, bool_bytes, text_bytes, HasNoZero}
 use Rattle.gm_keys.specs.Key.{index_number, attribute_number, prefix_of, shard_of, code_front, bin_code_front, form_of, front_of, key_of}
 use Rattle.gm_keys.specs.Cell.{z2_code, z3_code, xz2_code, xz3_code}
-use Rattle.gm_keys.specs.Place.{point_in, box_in, bin_in}
+use Rattle.gm_keys.specs.Whereabouts.{point_in, box_in, bin_in}
 use Rattle.gm_keys.specs.Layout.{IsForm, IsMiddle, IsLaidOut}
 use Rattle.gm_keys.proofs.Cells.{both_so}
 

@@ -7,7 +7,7 @@ use mir.Syntax.{w32}
 use Rattle.gm_curve.specs.Curve.{IsAtMost}
 use Rattle.gm_curve.specs.Scale.{normal_of}
 use Rattle.gm_geom.specs.Validity.{is_within, is_in_world}
-use Rattle.gm_geom.specs.declared.place.Point.{Point}
+use Rattle.gm_geom.specs.declared.point.Point.{Point}
 use Rattle.gm_keys.specs.Cell.{natural, along, longitude_cell, latitude_cell}
 
 pub both_so : (a b : Bool) → (a && b) ≡ true → (a ≡ true) × (b ≡ true)

@@ -1,7 +1,7 @@
 -- Keys by what an index needs of a feature.
 use Rattle.std.proofs.Common.{◌≡◌, ℕ, List, [], ◌∷◌, ◌++◌, append_assoc, Option, Some, None, Result, Ok, Err, IfOk, option_map, option_and_then, refl, ap, ◌∙◌}
-use Rattle.gm_geom.specs.declared.place.Point.{Point}
-use Rattle.gm_geom.specs.declared.place.Box2.{Box2}
+use Rattle.gm_geom.specs.declared.point.Point.{Point}
+use Rattle.gm_geom.specs.declared.point.Box2.{Box2}
 use Rattle.gm_calendar.specs.declared.bin.Bin.{Bin}
 use Rattle.gm_types.specs.declared.index.IndexKind.TheVariants.{Id, Z2, Z3, Xz2, Xz3, Attr}
 use Rattle.gm_types.specs.Specification.{Specification, period_of, z2_bits_of, z3_bits_of, precision_of}
@@ -9,7 +9,7 @@ use Rattle.gm_feature.specs.declared.feature.Feature.{Feature}
 use Rattle.gm_feature.specs.declared.value.Value.{Value}
 use Rattle.gm_feature.specs.Feature.{value_at}
 use Rattle.gm_keys.specs.Cell.{z2_code, z3_code, xz2_code, xz3_code}
-use Rattle.gm_keys.specs.Place.{point_in, box_in, bin_in}
+use Rattle.gm_keys.specs.Whereabouts.{point_in, box_in, bin_in}
 use Rattle.gm_keys.specs.Key.{prefix_of, shard_of, code_front, bin_code_front, front_of, key_of, id_key, value_key, form_of}
 
 abbrev whole : List ℕ → Option (List ℕ) → Option (List ℕ)

@@ -7,8 +7,8 @@ use Rattle.gm_calendar.specs.declared.bin.Bin.{Bin}
 use Rattle.gm_calendar.specs.declared.period.Period.{Period}
 use Rattle.gm_geom.specs.declared.geometry.Geometry.{Geometry}
 use Rattle.gm_geom.specs.declared.geometry.Geometry.TheVariants as geo
-use Rattle.gm_geom.specs.declared.place.Point.{Point}
-use Rattle.gm_geom.specs.declared.place.Box2.{Box2}
+use Rattle.gm_geom.specs.declared.point.Point.{Point}
+use Rattle.gm_geom.specs.declared.point.Box2.{Box2}
 use Rattle.gm_geom.specs.declared.validity.GeomFault.{GeomFault}
 use Rattle.gm_geom.specs.declared.validity.GeomFault.TheVariants.{Many, Range, Short}
 use Rattle.gm_geom.specs.Extent.{widened, extent_of}
@@ -29,7 +29,7 @@ use Rattle.gm_feature.specs.declared.value.Value.{Value}
 use Rattle.gm_feature.specs.declared.value.Value.TheVariants as value
 use Rattle.gm_feature.specs.Feature.{Fits, values_fit, value_at, has_bin, date_has_bin, has_time_index}
 use Rattle.gm_feature.specs.Value.{value_fits}
-use Rattle.gm_keys.specs.Place.{geometry_of, instant_of, point_of, box_of, point_in, box_in, bin_in, is_null, lacks_value}
+use Rattle.gm_keys.specs.Whereabouts.{geometry_of, instant_of, point_of, box_of, point_in, box_in, bin_in, is_null, lacks_value}
 use Rattle.gm_keys.specs.Key.{form_of, front_of, key_of}
 use Rattle.gm_keys.proofs.Cells.{both_so}
 use Rattle.gm_keys.proofs.Places.{none_is}

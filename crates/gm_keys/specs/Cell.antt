@@ -5,8 +5,8 @@ use Rattle.gm_calendar.specs.Period.{longest_of}
 use Rattle.gm_curve.specs.Curve.{z_code as code_of_cells}
 use Rattle.gm_curve.specs.Scale.{normal_of}
 use Rattle.gm_curve.specs.Xz.{xz_code as code_of_box}
-use Rattle.gm_geom.specs.declared.place.Point.{Point}
-use Rattle.gm_geom.specs.declared.place.Box2.{Box2}
+use Rattle.gm_geom.specs.declared.point.Point.{Point}
+use Rattle.gm_geom.specs.declared.point.Box2.{Box2}
 use Rattle.gm_geom.specs.Validity.{is_in_world}
 
 -- a number that is not below 0

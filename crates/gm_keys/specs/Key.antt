@@ -12,7 +12,7 @@ use Rattle.gm_feature.specs.declared.value.Value.TheVariants as value
 use Rattle.gm_feature.specs.Feature.{value_at}
 use Rattle.gm_lexi.specs.Lexicode.{int_bytes, long_bytes, date_bytes, bool_bytes, text_bytes}
 use Rattle.gm_keys.specs.Cell.{z2_code, z3_code, xz2_code, xz3_code}
-use Rattle.gm_keys.specs.Place.{point_in, box_in, bin_in}
+use Rattle.gm_keys.specs.Whereabouts.{point_in, box_in, bin_in}
 
 -- the number of an index
 abbrev pub index_number : IndexKind → ℕ

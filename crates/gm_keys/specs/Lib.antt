@@ -1,4 +1,4 @@
 pub mod Cell
-pub mod Place
+pub mod Whereabouts
 pub mod Key
 pub mod Layout

@@ -1,5 +1,6 @@
 // The keys of a feature.
-ghost use Rattle.std.specs.Prelude.{◌≡◌, ◌≤◌, ◌<◌, ◌^◌, ◌++◌, ◌∷◌, [], true, length, is_some, is_none, unwrap_or, IsTrue, IfOk, OnOk};
+ghost use Rattle.std.specs.Prelude.{◌≡◌, ◌≤◌, ◌<◌, ◌^◌, ◌++◌, ◌∷◌, [], true, length};
+ghost use Rattle.std.specs.Prelude.{is_some, is_none, unwrap_or, IsTrue, IfOk, OnOk};
 ghost use Rattle.byteorder.specs.Endian.{big_bytes};
 ghost use Rattle.std.specs.List.{flat_map};
 ghost use Rattle.gm_types.specs.Index.{has_index, attribute_indexes};
@@ -7,12 +8,12 @@ ghost use Rattle.gm_types.specs.declared.index.IndexKind.TheVariants.{Id, Z2, Z3
 ghost use Rattle.gm_feature.specs.Feature.{Fits};
 ghost use Rattle.gm_feature.specs.Value.{is_sound};
 ghost use Rattle.gm_keys.specs.Key as spec;
-ghost use Rattle.gm_keys.specs.Place.{lacks_value};
+ghost use Rattle.gm_keys.specs.Whereabouts.{lacks_value};
 
 use crate::cell::{xz2_code, xz3_code, z2_code, z3_code};
 use crate::form::{form_length, put_form};
 use crate::laws::keys_are_missing_where_values_are;
-use crate::place::{bin_in, box_in, point_in};
+use crate::whereabouts::{bin_in, box_in, point_in};
 use byteorder::{BigEndian, ByteOrder};
 use gm_base::{Bytes, FeatureId, Items, NoMemory, fnv1a};
 use gm_feature::{Feature, Value};

@@ -1,6 +1,7 @@
 // Laws of keys, for proofs. Each is the contract of a function that does nothing but call those
 // that it rests on.
-ghost use Rattle.std.specs.Prelude.{◌≡◌, ◌<◌, ◌≤◌, ◌^◌, ◌&&◌, ◌==◌, nat_le, nat_eq, ℕ, List, [], ◌∷◌, ◌++◌, Some, is_none, true};
+ghost use Rattle.std.specs.Prelude.{◌≡◌, ◌<◌, ◌≤◌, ◌^◌, ◌&&◌, ◌==◌, nat_le, nat_eq};
+ghost use Rattle.std.specs.Prelude.{ℕ, List, [], ◌∷◌, ◌++◌, Some, is_none, true};
 ghost use Rattle.std.specs.Ordering.{nat_cmp, is_le};
 ghost use Rattle.std.specs.Cmp.Lexicographic.{pointwise, slice_cmp};
 ghost use Rattle.gm_lexi.specs.After.{after_of, is_from_to};
@@ -10,9 +11,10 @@ ghost use Rattle.gm_types.specs.Index.{has_index};
 ghost use Rattle.gm_types.specs.Specification.{Specification, shards_of};
 ghost use Rattle.gm_feature.specs.declared.feature.Feature.{Feature};
 ghost use Rattle.gm_feature.specs.Feature.{Fits};
-ghost use Rattle.gm_keys.specs.Key.{prefix_of, shard_of, code_front, bin_front, bin_code_front, key_of, id_key};
+ghost use Rattle.gm_keys.specs.Key.{prefix_of, shard_of, code_front, bin_front};
+ghost use Rattle.gm_keys.specs.Key.{bin_code_front, key_of, id_key};
 ghost use Rattle.gm_keys.specs.Layout.{IsLaidOut};
-ghost use Rattle.gm_keys.specs.Place.{lacks_value};
+ghost use Rattle.gm_keys.specs.Whereabouts.{lacks_value};
 
 use gm_lexi::{big_bytes_in_order, fronts_decide, no_value_is_a_front};
 

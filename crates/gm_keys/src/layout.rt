@@ -1,9 +1,11 @@
 // The parts of a key, found again.
-ghost use Rattle.std.specs.Prelude.{◌≡◌, ◌≤◌, ◌-◌, ◌++◌, ◌∷◌, ℕ, List, Some, length, take, drop, IsTrue, IfSome, OnSome};
+ghost use Rattle.std.specs.Prelude.{◌≡◌, ◌≤◌, ◌-◌, ◌++◌, ◌∷◌, ℕ, List, Some, length};
+ghost use Rattle.std.specs.Prelude.{take, drop, IsTrue, IfSome, OnSome};
 ghost use Rattle.std.specs.Option.{option_copied};
 ghost use Rattle.std.specs.List.{list_all};
 ghost use Rattle.byteorder.specs.Endian.{big_bytes};
-ghost use Rattle.gm_base.specs.Identifier.{is_identifier as is_id, has_identifier_form as has_form, is_printable};
+ghost use Rattle.gm_base.specs.Identifier.{is_identifier as is_id, has_identifier_form as has_form};
+ghost use Rattle.gm_base.specs.Identifier.{is_printable};
 ghost use Rattle.gm_types.specs.Index.{has_index};
 ghost use Rattle.gm_types.specs.declared.kind.Kind.TheVariants.{Text, Integer, Long, Boolean, Date};
 ghost use Rattle.gm_keys.specs.Key as spec;

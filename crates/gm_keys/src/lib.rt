@@ -7,7 +7,7 @@ mod form;
 mod key;
 mod laws;
 mod layout;
-mod place;
+mod whereabouts;
 
 pub use key::{id_key, key_of, keys_of};
 pub use laws::{

@@ -5,7 +5,8 @@ ghost use Rattle.std.specs.Ordering.{nat_cmp, int_cmp, bool_cmp, ordering_then};
 ghost use Rattle.std.specs.Cmp.Lexicographic.{slice_cmp};
 ghost use Rattle.byteorder.specs.Endian.{big_bytes};
 ghost use Rattle.gm_calendar.specs.Instant.{IsInstant};
-ghost use Rattle.gm_lexi.specs.Lexicode.{int_bytes, long_bytes, date_bytes, bool_bytes, text_bytes, HasNoZero};
+ghost use Rattle.gm_lexi.specs.Lexicode.{int_bytes, long_bytes, date_bytes};
+ghost use Rattle.gm_lexi.specs.Lexicode.{bool_bytes, text_bytes, HasNoZero};
 
 /// The order of the forms is that of the values, and of equal values what follows the forms
 /// decides. Texts are in the order of their bytes.

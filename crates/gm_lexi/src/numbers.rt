@@ -1,5 +1,6 @@
 // Whole numbers and instants.
-ghost use Rattle.std.specs.Prelude.{◌≡◌, ◌++◌, ℕ, ℤ, List, Some, drop, IfSome, OnOk, OnErr, FitsSigned};
+ghost use Rattle.std.specs.Prelude.{◌≡◌, ◌++◌, ℕ, ℤ, List, Some, drop};
+ghost use Rattle.std.specs.Prelude.{IfSome, OnOk, OnErr, FitsSigned};
 ghost use Rattle.std.specs.Int.{w32, w64};
 ghost use Rattle.gm_calendar.specs.Instant.{IsInstant};
 ghost use Rattle.gm_lexi.specs.Lexicode.{int_bytes, long_bytes, date_bytes};

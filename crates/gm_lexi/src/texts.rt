@@ -1,5 +1,6 @@
 // Texts.
-ghost use Rattle.std.specs.Prelude.{◌≡◌, ◌++◌, ◌+◌, List, ℕ, Some, take, drop, length, IfSome, OnOk, OnErr};
+ghost use Rattle.std.specs.Prelude.{◌≡◌, ◌++◌, ◌+◌, List, ℕ, Some, take};
+ghost use Rattle.std.specs.Prelude.{drop, length, IfSome, OnOk, OnErr};
 ghost use Rattle.gm_lexi.specs.Lexicode.{text_bytes, HasNoZero, IsLexicalText};
 
 use gm_base::{Bytes, NoMemory, Text};

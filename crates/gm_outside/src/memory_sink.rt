@@ -1,5 +1,6 @@
 // A sink in memory.
-ghost use Rattle.std.specs.Prelude.{◌≡◌, ◌≤◌, ◌<◌, ◌↔◌, ◌++◌, Some, length, take, min, [], true, IfOk, OnOk, OnErr, IsErrOf, is_err};
+ghost use Rattle.std.specs.Prelude.{◌≡◌, ◌≤◌, ◌<◌, ◌↔◌, ◌++◌, Some, length, take, min};
+ghost use Rattle.std.specs.Prelude.{[], true, IfOk, OnOk, OnErr, IsErrOf, is_err};
 ghost use Rattle.gm_outside.specs.Sink.{within_some};
 ghost use Rattle.gm_base.specs.Counter.{capped_sum};
 ghost use Rattle.gm_outside.specs.Failed.{Rose, is_among};

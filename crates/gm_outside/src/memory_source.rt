@@ -1,5 +1,6 @@
 // A source in memory.
-ghost use Rattle.std.specs.Prelude.{◌≡◌, ◌≤◌, ◌<◌, Some, take, drop, length, min, IfOk, OnErr, is_err};
+ghost use Rattle.std.specs.Prelude.{◌≡◌, ◌≤◌, ◌<◌, Some, take, drop, length};
+ghost use Rattle.std.specs.Prelude.{min, IfOk, OnErr, is_err};
 ghost use Rattle.std.specs.Option.{ForSome};
 ghost use Rattle.gm_base.specs.Counter.{capped_sum};
 ghost use Rattle.gm_outside.specs.Failed.{Rose, is_among};

@@ -47,10 +47,6 @@ both_true false b h = absurd (true≢false (sym h))
 pub record Excludes (a b : Span) : Type 0 where
   pub never : (key : List ℕ) → is_within a.0 a.1 key ≡ true → is_within b.0 b.1 key ≡ false
 
-second_false : (a b : Bool) → (a ≡ true → b ≡ true) → (a && not b) ≡ false
-second_false true b h = ap not (h refl)
-second_false false b h = refl
-
 -- the one ends before the other begins, or where it begins
 pub rising : (a b : Span) → is_le (C a.1 b.0) ≡ true → Excludes a b
 rising a b h = record {

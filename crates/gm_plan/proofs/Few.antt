@@ -2,7 +2,7 @@
 use Rattle.std.proofs.Common.{◌≡◌, ℕ, ◌≤◌, Bool, true, false, List, [], ◌∷◌, length, refl, Option, Some, None, arith}
 use Rattle.std.specs.Prelude.{ℤ, pos, ◌+ℤ◌, ◌-ℤ◌, nat_le, nat_eq, if◌then◌else◌, option_to_list}
 use Rattle.std.proofs.lemmas.Bool.{leb-true}
-use Rattle.gm_geom.specs.declared.place.Box2.{Box2}
+use Rattle.gm_geom.specs.declared.point.Box2.{Box2}
 use Rattle.gm_geom.specs.Extent.{extent_of}
 use Rattle.gm_geom.specs.Geometry.{points_of}
 use Rattle.gm_types.specs.Specification.{Specification, default_geometry_of, default_date_of, default_shape_of}
@@ -191,7 +191,3 @@ few_intervals_at (Some d) t = few (interval_rules d) (record {
 
 pub few_intervals : (s : Specification) (t : Tree) → IsFew (intervals_of s t)
 few_intervals s t = few_intervals_at (default_date_of s) t
-
-pub few_listed : {X : Type 0} (b : Bound X) → IsFew b → length (list_of b) ≤ 8
-few_listed World h = omega arith
-few_listed (Listed xs) h = h

@@ -2,7 +2,7 @@
 use Rattle.std.proofs.Common.{◌≡◌, ℕ, ◌*◌, ◌≤◌, Bool, true, false, cond, List, [], ◌∷◌, length, map, filter, refl, arith, length-append}
 use Rattle.std.specs.List.{flat_map}
 use Rattle.gm_calendar.specs.declared.period.Period.{Period}
-use Rattle.gm_geom.specs.declared.place.Box2.{Box2}
+use Rattle.gm_geom.specs.declared.point.Box2.{Box2}
 use Rattle.gm_bounds.specs.declared.interval.Interval.{Interval}
 use Rattle.gm_plan.specs.Bins.{meets_bin}
 use Rattle.gm_plan.specs.Windows.{windows_in, window_in}

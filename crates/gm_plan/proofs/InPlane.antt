@@ -4,8 +4,8 @@ use Rattle.std.proofs.lemmas.Bool.{and_parts, and_from, or_left, or_right, or_ca
 use Rattle.std.proofs.lemmas.Int.{ints}
 use Rattle.std.specs.Prelude.{ℤ, int_le, ◌≤ℤ◌, leb, slice_index_or}
 use Rattle.std.specs.List.{list_any, flat_map, range_with_len}
-use Rattle.gm_geom.specs.declared.place.Point.{Point}
-use Rattle.gm_geom.specs.declared.place.Box2.{Box2}
+use Rattle.gm_geom.specs.declared.point.Point.{Point}
+use Rattle.gm_geom.specs.declared.point.Box2.{Box2}
 use Rattle.gm_shapes.specs.Segment.{do_overlap, reaches}
 use Rattle.gm_runs.specs.Runs.{HasNumber}
 use Rattle.gm_trees.specs.declared.window.Window.{Window}

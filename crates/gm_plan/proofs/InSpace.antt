@@ -11,8 +11,8 @@ use Rattle.gm_calendar.specs.declared.period.Period.TheVariants.{Day, Week, Mont
 use Rattle.gm_calendar.specs.declared.bin.Bin.{Bin}
 use Rattle.gm_calendar.specs.Bin.{first_ms, last_ms, ms_since, IsBinOf}
 use Rattle.gm_calendar.specs.Period.{last_of, unit_of, longest_of}
-use Rattle.gm_geom.specs.declared.place.Point.{Point}
-use Rattle.gm_geom.specs.declared.place.Box2.{Box2}
+use Rattle.gm_geom.specs.declared.point.Point.{Point}
+use Rattle.gm_geom.specs.declared.point.Box2.{Box2}
 use Rattle.gm_runs.specs.Runs.{HasNumber}
 use Rattle.gm_trees.specs.declared.window.Node3.{Node3}
 use Rattle.gm_trees.specs.declared.window.Window.{Window}

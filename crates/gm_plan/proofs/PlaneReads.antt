@@ -3,8 +3,8 @@ use Rattle.std.proofs.Common.{◌≡◌, ℕ, ◌≤◌, true, List, ◌++◌, r
 use Rattle.std.proofs.lemmas.Bool.{and_parts}
 use Rattle.std.specs.Prelude.{option_map}
 use Rattle.std.specs.List.{list_any, flat_map, range_with_len}
-use Rattle.gm_geom.specs.declared.place.Point.{Point}
-use Rattle.gm_geom.specs.declared.place.Box2.{Box2}
+use Rattle.gm_geom.specs.declared.point.Point.{Point}
+use Rattle.gm_geom.specs.declared.point.Box2.{Box2}
 use Rattle.gm_types.specs.declared.index.IndexKind.TheVariants.{Z2, Xz2}
 use Rattle.gm_types.specs.declared.kind.GeoKind.TheVariants as shape
 use Rattle.gm_types.specs.declared.kind.GeoKind.{GeoKind}
@@ -21,7 +21,7 @@ use Rattle.gm_filter.specs.Tree.{Tree}
 use Rattle.gm_filter.specs.Truth.{is_true}
 use Rattle.gm_keys.specs.Cell.{z2_code, xz2_code, cells_of}
 use Rattle.gm_keys.specs.Key.{prefix_of, key_of, front_of, code_front, shard_of}
-use Rattle.gm_keys.specs.Place.{point_in, box_in}
+use Rattle.gm_keys.specs.Whereabouts.{point_in, box_in}
 use Rattle.gm_trees.specs.Z.{z_shape}
 use Rattle.gm_trees.specs.Xz.{xz_shape}
 use Rattle.gm_bounds.specs.Applicability.{is_listed}

@@ -6,7 +6,7 @@ use Rattle.std.specs.Prelude.{codes, ℤ, pos, negsuc, ◌+ℤ◌, ◌≤ℤ◌,
 use Rattle.gm_calendar.specs.declared.period.Period.{Period}
 use Rattle.gm_calendar.specs.Period.{longest_of}
 use Rattle.gm_curve.specs.Scale.{normal_of}
-use Rattle.gm_geom.specs.declared.place.Point.{Point}
+use Rattle.gm_geom.specs.declared.point.Point.{Point}
 use Rattle.gm_types.specs.Specification.{Specification, setting_of, setting_or, number_of, number_that, is_shard_count, is_precision, is_z2_width, is_z3_width, shards_of, precision_of, z2_bits_of, z3_bits_of}
 use Rattle.gm_trees.specs.Paths.{AreCoordinates}
 use Rattle.gm_keys.specs.Cell.{natural, along, longitude_cell, latitude_cell, time_cell, cells_of, cells_at}

@@ -10,9 +10,6 @@ use Rattle.gm_trees.specs.declared.window.Node3.{Node3}
 use Rattle.gm_trees.specs.declared.window.Window.{Window}
 use Rattle.gm_plan.proofs.Times.{range_split}
 
-pub same_long : (z : ℤ) → SFits w64 z → to_z w64 (of_z w64 z) ≡ z
-same_long z h = to_z-of_z w64 z h
-
 pub same_cells : (a b : Node3) → a.x ≡ b.x → a.y ≡ b.y → a.t ≡ b.t → a ≡ b
 same_cells a b p q r = λ i. record { x = p i; y = q i; t = r i }
 

@@ -7,8 +7,8 @@ use Rattle.gm_calendar.specs.declared.period.Period.{Period}
 use Rattle.gm_calendar.specs.declared.period.Period.TheVariants.{Day, Week, Month, Year}
 use Rattle.gm_calendar.specs.declared.bin.Bin.{Bin}
 use Rattle.gm_calendar.specs.Bin.{bin_at, HasNoBin, IsBinOf}
-use Rattle.gm_geom.specs.declared.place.Point.{Point}
-use Rattle.gm_geom.specs.declared.place.Box2.{Box2}
+use Rattle.gm_geom.specs.declared.point.Point.{Point}
+use Rattle.gm_geom.specs.declared.point.Box2.{Box2}
 use Rattle.gm_types.specs.declared.index.IndexKind.TheVariants.{Z3, Xz3}
 use Rattle.gm_types.specs.declared.kind.GeoKind.TheVariants as shape
 use Rattle.gm_types.specs.declared.kind.GeoKind.{GeoKind}
@@ -25,7 +25,7 @@ use Rattle.gm_filter.specs.Tree.{Tree}
 use Rattle.gm_filter.specs.Truth.{is_true}
 use Rattle.gm_keys.specs.Cell.{z3_code, xz3_code, cells_at}
 use Rattle.gm_keys.specs.Key.{prefix_of, key_of, front_of, bin_code_front, shard_of}
-use Rattle.gm_keys.specs.Place.{point_in, box_in, bin_in, instant_of}
+use Rattle.gm_keys.specs.Whereabouts.{point_in, box_in, bin_in, instant_of}
 use Rattle.gm_trees.specs.Z.{z_shape}
 use Rattle.gm_trees.specs.Xz.{xz_shape}
 use Rattle.gm_bounds.specs.declared.bound.Bound.{Bound}

@@ -19,9 +19,6 @@ not_le m n h = sym (omega (arith, ints, h))
 from_le : (m n : ℤ) → int_le m n ≡ true → m ≤ℤ n
 from_le m n h = omega (arith, ints, h)
 
-to_le : (m n : ℤ) → m ≤ℤ n → int_le m n ≡ true
-to_le m n h = sym (omega (arith, ints, h))
-
 pub end_most : (o : Option ℤ) (last : ℤ) → not_after o last ≤ℤ last
 end_most None last = omega (arith, ints)
 end_most (Some high) last = omega (arith, ints, clamps)
@@ -145,14 +142,6 @@ at_low first low m n last f g h p q r =
 pub at_high : (last high m : ℤ) → SFits w64 high → SFits w64 m → m ≡ int_max (to_z w64 (of_z w64 high)) (pos 0) → to_z w64 (of_z w64 m) ≤ℤ last → int_max high (pos 0) ≤ℤ last
 at_high last high m f g p r =
     subst (λ z. z ≤ℤ last) (p ∙ ap (λ z. int_max z (pos 0)) (to_z-of_z w64 high f)) (subst (λ z. z ≤ℤ last) (to_z-of_z w64 m g) r)
-
--- ---- an interval that meets a bin has its first and last millisecond there in it
-pub start_lies : (period : Period) (number : ℕ) (i : Interval) → meets_bin period number i ≡ true → LiesIn period (start_in period number i) number
-start_lies period number i h =
-    (start_least i.low (first_ms period number), chain (start_in period number i) (end_in period number i) (last_ms period number) (from_le _ _ h) (end_most i.high (last_ms period number)))
-  where
-    chain : (a b c : ℤ) → a ≤ℤ b → b ≤ℤ c → a ≤ℤ c
-    chain a b c p q = omega (arith, ints, p, q)
 
 pub end_lies : (period : Period) (number : ℕ) (i : Interval) → meets_bin period number i ≡ true → LiesIn period (end_in period number i) number
 end_lies period number i h =

@@ -2,7 +2,7 @@
 use Rattle.std.specs.Prelude.{ℕ, List, map, filter}
 use Rattle.std.specs.List.{flat_map}
 use Rattle.gm_calendar.specs.declared.period.Period.{Period}
-use Rattle.gm_geom.specs.declared.place.Box2.{Box2}
+use Rattle.gm_geom.specs.declared.point.Box2.{Box2}
 use Rattle.gm_trees.specs.declared.window.Window.{Window}
 use Rattle.gm_trees.specs.Paths.{cell_of}
 use Rattle.gm_keys.specs.Cell.{cells_of, cells_at}

@@ -1,5 +1,6 @@
 // The bins that intervals of time meet.
-ghost use Rattle.std.specs.Prelude.{◌≡◌, ◌≤◌, ◌<◌, ◌+◌, ◌≤ℤ◌, ◌++◌, ◌∷◌, [], pos, min, filter, false, ℕ, All, IfOk, OnOk};
+ghost use Rattle.std.specs.Prelude.{◌≡◌, ◌≤◌, ◌<◌, ◌+◌, ◌≤ℤ◌, ◌++◌, ◌∷◌, [], pos};
+ghost use Rattle.std.specs.Prelude.{min, filter, false, ℕ, All, IfOk, OnOk};
 ghost use Rattle.gm_calendar.specs.Bin.{LiesIn, first_ms, last_ms};
 ghost use Rattle.gm_calendar.specs.Instant.{last_instant};
 ghost use Rattle.gm_calendar.specs.Period.{last_of, longest_of, unit_of};

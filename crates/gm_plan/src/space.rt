@@ -1,5 +1,6 @@
 // Ranges of windows in space and time, bin by bin.
-ghost use Rattle.std.specs.Prelude.{◌≡◌, ◌≤◌, ◌<◌, ◌++◌, ◌∷◌, [], ℕ, length, map, All, IsTrue, IfOk, OnOk, IfSome};
+ghost use Rattle.std.specs.Prelude.{◌≡◌, ◌≤◌, ◌<◌, ◌++◌, ◌∷◌, [], ℕ, length};
+ghost use Rattle.std.specs.Prelude.{map, All, IsTrue, IfOk, OnOk, IfSome};
 ghost use Rattle.gm_trees.specs.Tree.{Shape};
 ghost use Rattle.gm_calendar.specs.Period.{last_of};
 ghost use Rattle.gm_trees.specs.Xz.{xz_shape};
@@ -157,7 +158,8 @@ fn ranges_in_bins<T: Tree<3>, L: Ledger>(
     requires few_bins { length bins.now ≤ target }
     requires numbered { All (λ number. number ≤ last_of extents.now.period) bins.now }
     ensures { IfOk result (λ list. list ≡ spec.ranges_in_bins (T.shape tree.now)
-        (windows_in extents.now.period extents.now.bits extents.now.boxes.now extents.now.intervals.now)
+        (windows_in extents.now.period extents.now.bits
+        extents.now.boxes.now extents.now.intervals.now)
         bins.now target) }
 {
     let mut list = Vec::new(alloc);

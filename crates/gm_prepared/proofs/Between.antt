@@ -6,8 +6,8 @@ use Rattle.std.specs.List.{list_any, AllByRecursion}
 use Rattle.std.proofs.lemmas.Bool.{and_parts, or_cases, or_from, cases_lt, both_ways, false_from_ne_true}
 use Rattle.std.proofs.lemmas.List.{get_or_default, get_or_read}
 use Rattle.std.proofs.lemmas.Int.{ints, clamps}
-use Rattle.gm_geom.specs.declared.place.Point.{Point}
-use Rattle.gm_geom.specs.declared.place.Box2.{Box2}
+use Rattle.gm_geom.specs.declared.point.Point.{Point}
+use Rattle.gm_geom.specs.declared.point.Box2.{Box2}
 use Rattle.gm_geom.specs.declared.geometry.Geometry.{Geometry}
 use Rattle.gm_geom.specs.Geometry.{points_of}
 use Rattle.gm_geom.specs.Extent.{HoldsAll, extent_of}
@@ -23,10 +23,6 @@ use Rattle.gm_prepared.specs.Prepared.{IsPrepared, IsBetween}
 use Rattle.gm_prepared.proofs.Heights.{at_below, at_rises, meets_at}
 use Rattle.gm_prepared.proofs.Lists.{Filtered, any_of_filter, any_filtered}
 use Rattle.gm_prepared.proofs.Held.{KeepsNear}
-
--- the bounds of a geometry whose extent is known
-pub bounds_known : (geometry : Geometry) (b : Box2) → extent_of (points_of geometry) ≡ Some b → bounds_of geometry ≡ b
-bounds_known geometry b e = ap (λ extent. unwrap_or extent no_box) e
 
 -- a box that holds a point has its low side not above its high one
 some_along : (b : Box2) (points : List Point) (extent : Box2) → extent_of points ≡ Some extent → HoldsAll b points → b.low.y ≤ℤ b.high.y

@@ -6,7 +6,7 @@ use Rattle.std.specs.List.{list_any, count_by}
 use Rattle.std.proofs.lemmas.Bool.{both_ways, ne_eqb, or_left, eq-eqb}
 use Rattle.std.proofs.lemmas.List.{drop_more}
 use Rattle.std.proofs.lemmas.List.Elements.{filter-append}
-use Rattle.gm_geom.specs.declared.place.Point.{Point}
+use Rattle.gm_geom.specs.declared.point.Point.{Point}
 use Rattle.gm_shapes.specs.declared.segment.Segment.{Segment}
 use Rattle.gm_shapes.specs.Segment.{do_meet}
 use Rattle.gm_shapes.specs.Edge.{lone_edge, edges_between_all}
@@ -23,10 +23,6 @@ settled_at p area odd e = do_meet (lone_edge p) (segment_of e) || (odd && not (i
 -- one turn of the walk over the edges
 next_held : (p : Point) (edges : List Edge) (i : ℕ) (d : Edge) (area : Option ℕ) (odd all : Bool) → i < length edges → all ≡ is_held p area odd (drop i edges) → all ≡ (settled_at p area odd (get_or edges i d) || is_held p (get_or edges i d).area (differs odd (crosses p (segment_of (get_or edges i d)))) (drop (i + 1) edges))
 next_held p edges i d area odd all below e = e ∙ ap (is_held p area odd) (drop_more edges i d below)
-
-pub held_found : (p : Point) (edges : List Edge) (i : ℕ) (d : Edge) (area : Option ℕ) (odd all settled : Bool) → i < length edges → all ≡ is_held p area odd (drop i edges) → settled ≡ settled_at p area odd (get_or edges i d) → settled ≡ true → all ≡ true
-held_found p edges i d area odd all settled below e is stop =
-    next_held p edges i d area odd all below e ∙ or_left _ _ (sym is ∙ stop)
 
 pub held_more : (p : Point) (edges : List Edge) (i : ℕ) (d : Edge) (area : Option ℕ) (odd all settled crossed : Bool) → i < length edges → all ≡ is_held p area odd (drop i edges) → settled ≡ settled_at p area odd (get_or edges i d) → settled ≡ false → crossed ≡ crosses p (segment_of (get_or edges i d)) → all ≡ is_held p (get_or edges i d).area (not (beq odd crossed)) (drop (i + 1) edges)
 held_more p edges i d area odd all settled crossed below e is on crossing =

@@ -1,7 +1,7 @@
 -- Whether a point is in one of the polygons whose edges stand in a row, polygon by polygon.
 use Rattle.std.specs.Prelude.{ℕ, ◌==◌, Bool, true, false, not, ◌&&◌, ◌||◌}
 use Rattle.std.specs.Prelude.{List, [], ◌∷◌, Option, None, Some}
-use Rattle.gm_geom.specs.declared.place.Point.{Point}
+use Rattle.gm_geom.specs.declared.point.Point.{Point}
 use Rattle.gm_shapes.specs.Segment.{do_meet}
 use Rattle.gm_shapes.specs.Edge.{lone_edge}
 use Rattle.gm_shapes.specs.Polygon.{crosses}

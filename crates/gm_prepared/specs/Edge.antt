@@ -1,6 +1,6 @@
 -- The edges of a geometry, each with the number of its polygon.
 use Rattle.std.specs.Prelude.{ℕ, suc, List, [], ◌∷◌, ◌++◌, map, Option, None, Some}
-use Rattle.gm_geom.specs.declared.place.Point.{Point}
+use Rattle.gm_geom.specs.declared.point.Point.{Point}
 use Rattle.gm_geom.specs.declared.geometry.Geometry.{Geometry}
 use Rattle.gm_geom.specs.Geometry.{lone_points_of, lines_of, areas_of}
 use Rattle.gm_shapes.specs.declared.segment.Segment.{Segment}

@@ -1,6 +1,6 @@
 -- Edges that are put into bands.
 use Rattle.std.specs.Prelude.{◌≡◌, ℕ, ◌<◌, ◌≤ℤ◌, List, [], length, filter, slice_index_or}
-use Rattle.gm_geom.specs.declared.place.Box2.{Box2}
+use Rattle.gm_geom.specs.declared.point.Box2.{Box2}
 use Rattle.gm_shapes.specs.Segment.{box_of}
 use Rattle.gm_prepared.specs.declared.edge.Edge.{Edge}
 use Rattle.gm_prepared.specs.Edge.{segment_of}

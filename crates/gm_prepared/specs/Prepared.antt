@@ -1,7 +1,7 @@
 -- What a prepared geometry keeps.
 use Rattle.std.specs.Prelude.{◌≡◌, ◌≤ℤ◌, ℤ, List, None, Some}
 use Rattle.std.specs.List.{AllByRecursion}
-use Rattle.gm_geom.specs.declared.place.Box2.{Box2}
+use Rattle.gm_geom.specs.declared.point.Box2.{Box2}
 use Rattle.gm_geom.specs.declared.geometry.Geometry.{Geometry}
 use Rattle.gm_geom.specs.Geometry.{points_of}
 use Rattle.gm_geom.specs.Validity.{fault_of}

@@ -1,7 +1,7 @@
 // A geometry whose edges stand in bands, and what it meets.
 ghost use Rattle.std.specs.Prelude.{◌≡◌, ◌<◌, ◌≤ℤ◌, ◌||◌, not, true, None, IfOk};
 ghost use Rattle.std.specs.List.{list_any};
-ghost use Rattle.gm_geom.specs.declared.place.Point.{Point};
+ghost use Rattle.gm_geom.specs.declared.point.Point.{Point};
 ghost use Rattle.gm_geom.specs.declared.geometry.Geometry.TheVariants as geo;
 ghost use Rattle.gm_geom.specs.Geometry.{points_of, areas_of};
 ghost use Rattle.gm_geom.specs.Validity.{fault_of, is_empty};

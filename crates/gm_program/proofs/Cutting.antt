@@ -26,17 +26,6 @@ partial_from-append held (x ∷ xs) ys =
       | false ↦ partial_from-append (held ++ x ∷ []) xs ys
     ]
 
--- taking from a front that is long enough, or from the whole
-take-take : {X : Type 0} (n : ℕ) (xs ys : List X) → take n (take n xs ++ ys) ≡ take n (xs ++ ys)
-take-take zero xs ys = refl
-take-take (suc n) [] ys = refl
-take-take (suc n) (x ∷ xs) ys = ap (λ rest. x ∷ rest) (take-take n xs ys)
-
--- what a line shows does not change where its front is cut
-pub cut-append : (start part : List ℕ) → cut (cut start ++ part) ≡ cut (start ++ part)
-unfolding cut
-cut-append start part = take-take 1048577 start part
-
 pub cut-none : cut [] ≡ []
 unfolding cut
 cut-none = refl
@@ -120,10 +109,6 @@ complete_from-rest start front rest inside =
 
 pub partial_from-rest : (start front rest : List ℕ) → IsInsideLine rest → partial_from start (front ++ rest) ≡ partial_from start front ++ rest
 partial_from-rest start front rest inside = partial_from-append start front rest ∙ partial_from-inside (partial_from start front) rest inside
-
--- bytes up to the first end of a line, and the others
-pub split_at_end : (bytes : List ℕ) (n : ℕ) → n < length bytes → slice_index bytes n ≡ 10 → bytes ≡ (take n bytes ++ 10 ∷ []) ++ drop (n + 1) bytes
-split_at_end bytes n inside is = sym (take-append-drop (n + 1) bytes) ∙ ap (λ front. front ++ drop (n + 1) bytes) (ended_at bytes n inside is)
 
 -- where memchr finds no end of a line, or one behind n bytes
 pub no_end : (bytes : List ℕ) → IsFirstByte (is_byte 10) bytes None → IsInsideLine bytes

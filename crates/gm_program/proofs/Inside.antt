@@ -297,9 +297,6 @@ length_in (span ∷ spans) rows apart =
     let few : 1 + times_inside row.0 spans ≤ 1 = subst (λ (b : Bool). cond b 1 0 + times_inside row.0 spans ≤ 1) within (apart row.0) in
     omega (arith, few, times_inside-inside row.0 spans later))) rows)
 
-pub rows_counted : (spans : List Span) (rows : Rows) → AreApart spans → length (rows_in spans rows) ≡ count_by (λ row. is_inside row.0 spans) rows
-rows_counted = length_in
-
 -- ---- a scan of a part
 abbrev pub HoldSome : Type 0
 HoldSome = (t : Specification) (rows : Rows) → All (λ row. HasFeature t row.1) rows → (held : List Feature) × Hold t rows held

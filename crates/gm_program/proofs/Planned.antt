@@ -49,10 +49,6 @@ pub executes_refused : (s : State) (outcome : Outcome) (code : Code) (types : Ty
 executes_refused s outcome code types rows tally fits holds is =
     subst (λ o. Executes o (Some (reply.Refusal code None)) types rows tally tally) (sym is) (record { store = holds; reply = refl; tally = omega (arith, fits) })
 
-pub hint_given : (t : Specification) (hint : Option IndexKind) → IsHint t hint → IfSome hint (λ kind. has_index t kind ≡ true)
-hint_given t None given = tt
-hint_given t (Some kind) given = given
-
 pub type_of : (s : State) (t : Specification) (types : Types) (rows : Rows) → Holds s types rows → type_at t.number s ≡ Some t → IsTypeOf s t rows
 type_of s t types rows holds typed = record { state = holds.state; limits = holds.limits; typed = typed; same_rows = holds.same_rows }
 

@@ -51,9 +51,6 @@ both_so : (a b : Bool) → (a && b) ≡ true → (a ≡ true) × (b ≡ true)
 both_so true b h = (refl, h)
 both_so false b h = cc
 
-pub target_within : (n : ℕ) → is_target n ≡ true → (1 ≤ n) × (n ≤ 10000)
-target_within n is = let parts = both_so (nat_le 1 n) (nat_le n 10000) is in (grind (arith, nat_tests), grind (arith, nat_tests))
-
 -- ---- a refusal
 pub refused_reply : (s : State) (a : Asked) (t : Specification) (outcome : Specification → List Chosen → Outcome) (code : Code) (types : Types) (rows : Rows) (tally : ℕ) → tally < 2 ^ 64 → Holds s types rows
     → type_at t.number s ≡ Some t → t.number ≡ a.number → IsPlanned t a (plan.Refused code) → Executes (asked_of (type_at a.number s) a s outcome) (Some (reply.Refusal code None)) types rows tally tally

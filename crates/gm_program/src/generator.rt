@@ -25,8 +25,8 @@ const HALF_WIDTH: u64 = 1_800_000_000;
 
 const HALF_HEIGHT: u64 = 900_000_000;
 
-/// The script of a type `gen`, so many features of it, and seven counts: the same for the same seed.
-/// Its draws are those of a linear congruential generator with the constants of MMIX (Knuth).
+/// The script of a type `gen`, so many features of it, and seven counts: the same for the same
+/// seed. Its draws are those of a linear congruential generator with the constants of MMIX (Knuth).
 pub fn generated(alloc: Global, seed: u64, count: u32) -> Result<Bytes, NoMemory>
     requires least { 1 ≤ count }
     requires most { count ≤ 100000 }

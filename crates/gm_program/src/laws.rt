@@ -22,8 +22,8 @@ pub fn words_have_options()
         ≡ Some (made_options 7 1) }
 {}
 
-/// A COUNT of 0 or above 100,000, a SEED above the greatest u64, a number that is not plain digits, a
-/// repeated option, an option of another name, a request for help and any other word are faults.
+/// A COUNT of 0 or above 100,000, a SEED above the greatest u64, a number that is not plain digits,
+/// a repeated option, an option of another name, a request for help and any other word are faults.
 pub fn faulty_words_have_no_options()
     ensures none { options_of (codes "--generate" ∷ codes "7:0" ∷ []) ≡ None }
     ensures many { options_of (codes "--generate" ∷ codes "7:100001" ∷ []) ≡ None }
@@ -44,8 +44,8 @@ pub fn faulty_words_have_no_options()
     ensures empty { options_of (codes "" ∷ []) ≡ None }
 {}
 
-/// What is written for a made script is its whole output without the replies that come first, those to
-/// its create and put lines.
+/// What is written for a made script is its whole output without the replies that come first, those
+/// to its create and put lines.
 pub fn loading_is_left_out()
     ensures { (setting : Setting) (s : State) (made : Made)
         → output setting s (generated_script made.seed made.count)

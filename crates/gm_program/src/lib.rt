@@ -1,4 +1,5 @@
-//! The program: the top call `run`, which serves a script from a source to a sink over a sorted table.
+//! The program: the top call `run`, which serves a script from a source to a sink over a sorted
+//! table.
 #![tactic(auto)]
 
 mod execute;

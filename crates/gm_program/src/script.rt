@@ -1,14 +1,17 @@
 // The top call.
-ghost use Rattle.std.specs.Prelude.{◌≡◌, ◌≢◌, ◌≤◌, ◌<◌, ◌+◌, ◌^◌, ◌++◌, ◌↔◌, ◌⊎◌, ℕ, List, [], ◌∷◌, Some, None, length, OnOk, OnErr, IfOk, IfErr, IsErrOf};
+ghost use Rattle.std.specs.Prelude.{◌≡◌, ◌≢◌, ◌≤◌, ◌<◌, ◌+◌, ◌^◌, ◌++◌, ◌↔◌, ◌⊎◌, ℕ, List, [], ◌∷◌};
+ghost use Rattle.std.specs.Prelude.{Some, None, length, OnOk, OnErr, IfOk, IfErr, IsErrOf};
 ghost use Rattle.std.specs.Option.{ForSome};
 ghost use Rattle.gm_outside.specs.Failed.{Rose};
 ghost use Rattle.gm_program.specs.Generator.{loading};
 ghost use Rattle.gm_program.specs.Lines.{cut, last_line, lines_of};
 ghost use Rattle.gm_program.specs.Machine.{Machine, replies};
-ghost use Rattle.gm_program.specs.Running.{Ends, Finishes, Loads, RepliesToTaken, CanBeRead, NeedNoSource, made_output, setting_of, whole_output};
+ghost use Rattle.gm_program.specs.Running.{Ends, Finishes, Loads, RepliesToTaken, CanBeRead};
+ghost use Rattle.gm_program.specs.Running.{NeedNoSource, made_output, setting_of, whole_output};
 ghost use Rattle.gm_engine_rows.specs.State.{State};
 ghost use Rattle.gm_program.specs.Store.{Holds, HasState};
-ghost use Rattle.gm_program.specs.Serving.{moment, Keeps, HasMachine, Serves, Closes, closing, WritesPart, Streams, Breaks, Stopped, HasCause};
+ghost use Rattle.gm_program.specs.Serving.{moment, Keeps, HasMachine, Serves, Closes, closing};
+ghost use Rattle.gm_program.specs.Serving.{WritesPart, Streams, Breaks, Stopped, HasCause};
 ghost use Rattle.gm_program.specs.Usage.{options_of};
 
 use crate::options::{Made, WordsFault};
@@ -31,10 +34,10 @@ const SCRIPT_LIMIT: usize = 1 << 40;
 /// The bytes that are read at a time.
 const PIECE: usize = 1 << 16;
 
-/// Serves a script to the sink over the store, from whatever state it keeps. The words are those after
-/// the program's name. Without words the script is the source's. After `--generate SEED:COUNT` it is the
-/// one that `generated` gives, of which the replies to its create and put lines are not written, and the
-/// source is not read. Any other words are `Usage`.
+/// Serves a script to the sink over the store, from whatever state it keeps. The words are those
+/// after the program's name. Without words the script is the source's. After
+/// `--generate SEED:COUNT` it is the one that `generated` gives, of which the replies to its create
+/// and put lines are not written, and the source is not read. Any other words are `Usage`.
 ///
 /// With the status `Done` the bytes written are the replies of a machine that keeps a plain map of
 /// features. After another status the tally and the store are not spoken of.

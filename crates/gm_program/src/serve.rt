@@ -1,5 +1,6 @@
 // Lines served one after the other.
-ghost use Rattle.std.specs.Prelude.{◌≡◌, ◌≤◌, ◌++◌, [], ◌∷◌, ℕ, List, Some, None, OnOk, OnErr, IfOk, IsErrOf, length};
+ghost use Rattle.std.specs.Prelude.{◌≡◌, ◌≤◌, ◌++◌, [], ◌∷◌, ℕ, List, Some, None};
+ghost use Rattle.std.specs.Prelude.{OnOk, OnErr, IfOk, IsErrOf, length};
 ghost use Rattle.std.specs.Option.{ForSome};
 ghost use Rattle.gm_outside.specs.Failed.{Rose};
 ghost use Rattle.gm_program.specs.Machine.{Machine, line_turn, end_turn, said, replies, outcome_of};
@@ -7,7 +8,8 @@ ghost use Rattle.gm_engine_rows.specs.State.{State};
 ghost use Rattle.gm_program.specs.Store.{HasState, Holds};
 ghost use Rattle.gm_script.specs.Reading.{reading};
 ghost use Rattle.gm_program.specs.Lines.{complete_from, partial_from, cut};
-ghost use Rattle.gm_program.specs.Serving.{moment, Keeps, HasMachine, Executes, Takes, Writes, WritesPart, Goes, Serves};
+ghost use Rattle.gm_program.specs.Serving.{moment, Keeps, HasMachine, Executes, Takes};
+ghost use Rattle.gm_program.specs.Serving.{Writes, WritesPart, Goes, Serves};
 
 use crate::execute::execute;
 use crate::pending::Pending;

@@ -6,8 +6,8 @@ use gm_table::Sorted;
 use gm_types::TypeList;
 use std::alloc::Global;
 
-/// Feature types, in order of creation, and one sorted table with all rows of their features. It keeps
-/// no second map: what stands in it can be had from the table alone.
+/// Feature types, in order of creation, and one sorted table with all rows of their features. It
+/// keeps no second map: what stands in it can be had from the table alone.
 #[derive(Debug, Drop)]
 pub struct Store<B> {
     pub types: TypeList,

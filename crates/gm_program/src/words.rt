@@ -1,7 +1,8 @@
 // The words after the program's name, read by `clap` as one simple command of one option.
 ghost use Rattle.std.specs.Prelude.{◌≡◌, IfOk, IfErr, true, false, map, option_map};
 ghost use Rattle.clap.specs.Words.{app_of, found_of, rows_of, matches_of};
-ghost use Rattle.gm_program.specs.Usage.{Reads, gm_command, generate_value, has_fault, options_of, pair_value};
+ghost use Rattle.gm_program.specs.Usage.{Reads, gm_command, generate_value};
+ghost use Rattle.gm_program.specs.Usage.{has_fault, options_of, pair_value};
 ghost use Rattle.gm_program.specs.declared.options.WordsFault.TheVariants.{Usage};
 
 use crate::number::number_in;
@@ -14,9 +15,9 @@ use std::alloc::Global;
 /// The greatest number of features of a generated script.
 const COUNT_LIMIT: u64 = 100_000;
 
-/// What the words after the program's name ask for. `Usage` comes only where `clap` finds a fault in
-/// them for a command of the option `--generate SEED:COUNT`, or where SEED or COUNT is no number of its
-/// range in plain digits; there it is the answer, but for want of memory.
+/// What the words after the program's name ask for. `Usage` comes only where `clap` finds a fault
+/// in them for a command of the option `--generate SEED:COUNT`, or where SEED or COUNT is no number
+/// of its range in plain digits; there it is the answer, but for want of memory.
 pub(crate) fn read_words(alloc: Global, words: &[Text]) -> Result<Options, WordsFault>
     ensures { Reads (options_of words.now) result }
 {

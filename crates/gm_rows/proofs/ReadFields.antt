@@ -39,10 +39,6 @@ here : (kinds : List Kind) (kind : Kind) (fields : List (List ℕ)) (field : Lis
 here kinds kind fields field i low within =
     rw (drop-cons kinds i kind low, drop-cons fields i field within, add-one) (values-step _ _ _ _)
 
-pub at_start : (answer : Result (List Value) RowFault) → answer ≡ carried false [] answer
-at_start (Ok values) = refl
-at_start (Err why) = refl
-
 good : (faulty : Bool) (values : List Value) (value : Value) (rest : Result (List Value) RowFault) → carried faulty values (before value rest) ≡ carried faulty (values ++ value ∷ []) rest
 good false values value (Ok more) = ap Ok (sym (append_assoc values (value ∷ []) more))
 good false values value (Err why) = refl

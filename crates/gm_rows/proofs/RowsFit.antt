@@ -154,7 +154,3 @@ record_fits t (Some (id ∷ fields)) f e = go (length fields == length (kinds_of
 
 pub row_fits : (t : Specification) (row : List ℕ) (f : Feature) → spec.row_of t row ≡ Ok f → Fits t f
 row_fits t row f e = record_fits t (spec.record_of row) f e
-
-pub answer_fits : (t : Specification) (row : List ℕ) (r : Result Feature RowFault) → spec.Answers (spec.row_of t row) r → IfOk r (Fits t)
-answer_fits t row (Ok f) e = row_fits t row f e
-answer_fits t row (Err why) e = tt

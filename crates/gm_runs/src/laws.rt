@@ -1,5 +1,6 @@
 // What holds of lists of runs, whatever made them.
-ghost use Rattle.std.specs.Prelude.{◌≡◌, ◌≤◌, ◌<◌, ◌↔◌, ◌+◌, ℕ, List, Bool, true, length, slice_index_or};
+ghost use Rattle.std.specs.Prelude.{◌≡◌, ◌≤◌, ◌<◌, ◌↔◌, ◌+◌, ℕ, List, Bool};
+ghost use Rattle.std.specs.Prelude.{true, length, slice_index_or};
 ghost use Rattle.gm_runs.specs.Runs.{AreRuns, HasNumber, AreMaximalRuns, maximal_runs};
 
 /// Two lists of runs that hold the same numbers are equal: a set has one list of maximal runs.

@@ -1,5 +1,6 @@
 // Lists of runs.
-ghost use Rattle.std.specs.Prelude.{◌≡◌, ◌≤◌, ◌++◌, ◌∷◌, ◌+◌, ℕ, List, IfOk, OnOk, OnErr, Decides, ltb};
+ghost use Rattle.std.specs.Prelude.{◌≡◌, ◌≤◌, ◌++◌, ◌∷◌, ◌+◌, ℕ, List};
+ghost use Rattle.std.specs.Prelude.{IfOk, OnOk, OnErr, Decides, ltb};
 ghost use Rattle.gm_runs.specs.Runs.{AreRuns, HasNumber};
 ghost use Rattle.gm_runs.specs.List.{inserted, pending};
 

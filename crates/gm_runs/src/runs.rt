@@ -1,5 +1,6 @@
 // A set of numbers, seen as its maximal runs.
-ghost use Rattle.std.specs.Prelude.{◌≡◌, ◌≤◌, ◌<◌, [], length, OnOk, OnErr, Decides, slice_index_or};
+ghost use Rattle.std.specs.Prelude.{◌≡◌, ◌≤◌, ◌<◌, [], length, OnOk};
+ghost use Rattle.std.specs.Prelude.{OnErr, Decides, slice_index_or};
 ghost use Rattle.gm_runs.specs.Runs.{AreRuns, HasNumber, AddsBetween};
 
 use crate::list;

@@ -1,5 +1,5 @@
-// Laws of rows and ranges, for proofs. Each is the contract of a function that does nothing but call
-// those that it rests on.
+// Laws of rows and ranges, for proofs. Each is the contract of a function that does nothing but
+// call those that it rests on.
 ghost use Rattle.std.specs.Prelude.{◌≡◌, ◌≤◌, ◌++◌, ℕ, List, All, length};
 ghost use Rattle.gm_base.specs.Spans.{Span};
 ghost use Rattle.gm_table.specs.Sorted.{Rows};
@@ -11,8 +11,8 @@ ghost use Rattle.gm_scan.specs.Ranges.{AreApart};
 
 use gm_feature::bytes_tell_features_apart;
 
-/// Rows of which each has the bytes of a feature that fits hold one list of features, and rows after
-/// rows hold features after features.
+/// Rows of which each has the bytes of a feature that fits hold one list of features, and rows
+/// after rows hold features after features.
 pub fn rows_hold_features()
     ensures some { (t : Specification) (rows : Rows) → All (λ row. HasFeature t row.1) rows
         → (held : List Feature) × Hold t rows held }

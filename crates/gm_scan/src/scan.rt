@@ -25,8 +25,9 @@ use gm_types::FeatureType;
 use std::alloc::Global;
 use std::mem;
 
-/// The features of the rows in the ranges of which the filter is true, in the order of the ranges and
-/// of the keys in each. Each row in the ranges raises the tally by one. A row in two ranges comes twice.
+/// The features of the rows in the ranges of which the filter is true, in the order of the ranges
+/// and of the keys in each. Each row in the ranges raises the tally by one. A row in two ranges
+/// comes twice.
 pub fn scan_one<'a, S: Sorted>(
     alloc: Global,
     of: &'a FeatureType,
@@ -36,8 +37,10 @@ pub fn scan_one<'a, S: Sorted>(
     tally: &mut S::Tally,
 ) -> Result<FeatureList, NoMemory>
     requires suits { Suits of.now (tree filter.now) }
-    requires features { All (λ row. HasFeature of.now row.1) (rows_in ranges.now (S.rows table.now)) }
-    ensures found { (held : List AnyFeature) → Hold of.now (rows_in ranges.now (S.rows table.now)) held
+    requires features { All (λ row. HasFeature of.now row.1)
+        (rows_in ranges.now (S.rows table.now)) }
+    ensures found { (held : List AnyFeature)
+        → Hold of.now (rows_in ranges.now (S.rows table.now)) held
         → IfOk result (λ found. found ≡ matching (tree filter.now) held) }
     ensures tally { OnOk result (S.Tally.number tally.new ≡ capped_sum (S.Tally.number tally.old)
         (length (rows_in ranges.now (S.rows table.now)))) }
@@ -51,8 +54,8 @@ pub fn scan_one<'a, S: Sorted>(
     Ok(found.into_features())
 }
 
-/// The number of the rows in the ranges of which the filter is true. Each row in the ranges raises the
-/// tally by one.
+/// The number of the rows in the ranges of which the filter is true. Each row in the ranges raises
+/// the tally by one.
 pub fn count_one<'a, S: Sorted>(
     alloc: Global,
     of: &'a FeatureType,
@@ -62,9 +65,11 @@ pub fn count_one<'a, S: Sorted>(
     tally: &mut S::Tally,
 ) -> Result<u64, NoMemory>
     requires suits { Suits of.now (tree filter.now) }
-    requires features { All (λ row. HasFeature of.now row.1) (rows_in ranges.now (S.rows table.now)) }
+    requires features { All (λ row. HasFeature of.now row.1)
+        (rows_in ranges.now (S.rows table.now)) }
     requires apart { AreApart ranges.now }
-    ensures matched { (held : List AnyFeature) → Hold of.now (rows_in ranges.now (S.rows table.now)) held
+    ensures matched { (held : List AnyFeature)
+        → Hold of.now (rows_in ranges.now (S.rows table.now)) held
         → IfOk result (λ matched. matched ≡ length (matching (tree filter.now) held)) }
     ensures tally { OnOk result (S.Tally.number tally.new ≡ capped_sum (S.Tally.number tally.old)
         (length (rows_in ranges.now (S.rows table.now)))) }
@@ -81,8 +86,8 @@ pub fn count_one<'a, S: Sorted>(
     Ok(counted.matched())
 }
 
-/// Appends the rows that `scan_one` would find, as they stand: the identifier of each feature, and its
-/// bytes. It makes no feature.
+/// Appends the rows that `scan_one` would find, as they stand: the identifier of each feature, and
+/// its bytes. It makes no feature.
 pub fn scan_rows<'a, S: Sorted>(
     alloc: Global,
     of: &'a FeatureType,
@@ -93,8 +98,10 @@ pub fn scan_rows<'a, S: Sorted>(
     tally: &mut S::Tally,
 ) -> Result<(), NoMemory>
     requires suits { Suits of.now (tree filter.now) }
-    requires features { All (λ row. HasFeature of.now row.1) (rows_in ranges.now (S.rows table.now)) }
-    ensures found { (held : List AnyFeature) → Hold of.now (rows_in ranges.now (S.rows table.now)) held
+    requires features { All (λ row. HasFeature of.now row.1)
+        (rows_in ranges.now (S.rows table.now)) }
+    ensures found { (held : List AnyFeature)
+        → Hold of.now (rows_in ranges.now (S.rows table.now)) held
         → OnOk result (found.new ≡ found.old ++ map row_of (matching (tree filter.now) held)) }
     ensures tally { OnOk result (S.Tally.number tally.new ≡ capped_sum (S.Tally.number tally.old)
         (length (rows_in ranges.now (S.rows table.now)))) }
@@ -125,8 +132,10 @@ pub fn scan_ids<'a, S: Sorted>(
     tally: &mut S::Tally,
 ) -> Result<(), NoMemory>
     requires suits { Suits of.now (tree filter.now) }
-    requires features { All (λ row. HasFeature of.now row.1) (rows_in ranges.now (S.rows table.now)) }
-    ensures found { (held : List AnyFeature) → Hold of.now (rows_in ranges.now (S.rows table.now)) held
+    requires features { All (λ row. HasFeature of.now row.1)
+        (rows_in ranges.now (S.rows table.now)) }
+    ensures found { (held : List AnyFeature)
+        → Hold of.now (rows_in ranges.now (S.rows table.now)) held
         → OnOk result (found.new ≡ found.old ++ map id_of (matching (tree filter.now) held)) }
     ensures tally { OnOk result (S.Tally.number tally.new ≡ capped_sum (S.Tally.number tally.old)
         (length (rows_in ranges.now (S.rows table.now)))) }
@@ -148,9 +157,12 @@ fn keep<'a, S: Sorted>(
     tally: &mut S::Tally,
 ) -> Result<(), NoMemory>
     requires suits { Suits of.now (tree filter.now) }
-    requires features { All (λ row. HasFeature of.now row.1) (rows_in ranges.now (S.rows table.now)) }
-    ensures found { (held : List AnyFeature) → Hold of.now (rows_in ranges.now (S.rows table.now)) held
-        → OnOk result (found.new ≡ found.old ++ map (kept_of keeping) (matching (tree filter.now) held)) }
+    requires features { All (λ row. HasFeature of.now row.1)
+        (rows_in ranges.now (S.rows table.now)) }
+    ensures found { (held : List AnyFeature)
+        → Hold of.now (rows_in ranges.now (S.rows table.now)) held
+        → OnOk result (found.new ≡ found.old
+        ++ map (kept_of keeping) (matching (tree filter.now) held)) }
     ensures tally { OnOk result (S.Tally.number tally.new ≡ capped_sum (S.Tally.number tally.old)
         (length (rows_in ranges.now (S.rows table.now)))) }
     ensures stopped { OnErr result ((handed : ℕ)

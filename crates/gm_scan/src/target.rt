@@ -2,7 +2,7 @@
 ghost use Rattle.std.specs.Prelude.{◌≡◌, true, None, IfOk};
 ghost use Rattle.gm_geom.specs.declared.geometry.Geometry.{Geometry as AnyGeometry};
 ghost use Rattle.gm_geom.specs.declared.geometry.Geometry.TheVariants as geo;
-ghost use Rattle.gm_geom.specs.declared.place.Box2.{Box2};
+ghost use Rattle.gm_geom.specs.declared.point.Box2.{Box2};
 ghost use Rattle.gm_geom.specs.Extent.{HoldsAll};
 ghost use Rattle.gm_geom.specs.Geometry.{points_of};
 ghost use Rattle.gm_geom.specs.Validity.{fault_of};

@@ -74,8 +74,8 @@ fn tests_of<'a>(
     Ok(tests)
 }
 
-/// Whether a stored feature passes. Its values are read in place, and its recursion is as deep as the
-/// filter.
+/// Whether a stored feature passes. Its values are read in place, and its recursion is as deep as
+/// the filter.
 #[cycle(passing)]
 pub(crate) fn passes(alloc: Global, test: &Test<'_>, stored: &Stored<'_>) -> Result<bool, NoMemory>
     requires suits { Suits stored.now.of.now (tree_of test.now) }

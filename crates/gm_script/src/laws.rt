@@ -1,10 +1,12 @@
 // Which lines are which commands, in the words of the language. Each law is the contract of a
 // function that does nothing.
-ghost use Rattle.std.specs.Prelude.{◌≡◌, ◌≤◌, ◌<◌, ◌⊎◌, ◌++◌, ◌∷◌, ◌==◌, [], ℕ, true, false, List, Option, Some, None, Ok, Err, codes, length};
+ghost use Rattle.std.specs.Prelude.{◌≡◌, ◌≤◌, ◌<◌, ◌⊎◌, ◌++◌, ◌∷◌, ◌==◌, [], ℕ, true, false};
+ghost use Rattle.std.specs.Prelude.{List, Option, Some, None, Ok, Err, codes, length};
 ghost use Rattle.std.specs.List.{list_any};
 ghost use Rattle.std.specs.Str.{is_utf8};
 ghost use Rattle.gm_base.specs.Identifier.{is_identifier};
-ghost use Rattle.gm_base.specs.declared.code.Code.TheVariants.{E01, E02, E03, E04, E05, E06, E07, E11, E12, E17, E19};
+ghost use Rattle.gm_base.specs.declared.code.Code.TheVariants.{E01, E02, E03, E04, E05, E06};
+ghost use Rattle.gm_base.specs.declared.code.Code.TheVariants.{E07, E11, E12, E17, E19};
 ghost use Rattle.gm_types.specs.declared.index.IndexKind.{IndexKind};
 ghost use Rattle.gm_types.specs.Reading.{specification_of};
 ghost use Rattle.gm_types.specs.Specification.{Specification};
@@ -19,7 +21,9 @@ ghost use Rattle.gm_ecql.specs.Outcome.{Meant, change_outcome, filter_outcome};
 ghost use Rattle.gm_script.specs.Ask.{hinted};
 ghost use Rattle.gm_script.specs.Bins.{keeps_bins};
 ghost use Rattle.gm_script.specs.Faults.{filter_fault, row_fault};
-ghost use Rattle.gm_script.specs.Laid.{IsLineOf, IsOnLine, IsFormed, IsUnformed, IsTypeNamed, IsFormedAsk, IsUnformedAsk, Question, command_words, question};
+ghost use Rattle.gm_script.specs.Laid.{IsLineOf, IsOnLine, IsFormed, IsUnformed, IsTypeNamed};
+ghost use Rattle.gm_script.specs.Laid.{IsFormedAsk, IsUnformedAsk, Question, command_words};
+ghost use Rattle.gm_script.specs.Laid.{question};
 ghost use Rattle.gm_script.specs.Line.{says_nothing};
 ghost use Rattle.gm_script.specs.Order.{asked};
 ghost use Rattle.gm_script.specs.Order as order;

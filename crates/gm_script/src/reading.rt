@@ -2,7 +2,8 @@
 ghost use Rattle.std.specs.Prelude.{◌≡◌, ◌≤◌, length, slice_get, Some, option_map, IfOk, IfSome};
 ghost use Rattle.gm_script.specs.Order.{order_of};
 ghost use Rattle.gm_script.specs.Reading as spec;
-ghost use Rattle.gm_script.specs.Reading.{Reads, reading, reading_of, command_in, command_of, question_of};
+ghost use Rattle.gm_script.specs.Reading.{Reads, reading, reading_of, command_in};
+ghost use Rattle.gm_script.specs.Reading.{command_of, question_of};
 ghost use Rattle.gm_script.specs.Suits.{Suits};
 
 mod asking;

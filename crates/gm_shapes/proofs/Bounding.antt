@@ -5,8 +5,8 @@ use Rattle.std.specs.Prelude.{int_le}
 use Rattle.std.specs.List.{list_any, AllByRecursion}
 use Rattle.std.proofs.lemmas.Bool.{and_parts, and_from, or_left, or_right, or_parts}
 use Rattle.std.proofs.lemmas.Int.{ints, clamps}
-use Rattle.gm_geom.specs.declared.place.Point.{Point}
-use Rattle.gm_geom.specs.declared.place.Box2.{Box2}
+use Rattle.gm_geom.specs.declared.point.Point.{Point}
+use Rattle.gm_geom.specs.declared.point.Box2.{Box2}
 use Rattle.gm_geom.specs.declared.geometry.Geometry.{Geometry}
 use Rattle.gm_geom.specs.declared.geometry.Geometry.TheVariants as geo
 use Rattle.gm_geom.specs.Geometry.{points_of, areas_of}

@@ -5,8 +5,8 @@ use Rattle.std.specs.List.{list_all, AllByRecursion, count_by}
 use Rattle.std.proofs.lemmas.Bool.{and_parts}
 use Rattle.std.proofs.lemmas.Bool.Decides.{Decides-int_eq}
 use Rattle.std.proofs.lemmas.Int.{ints, by_lt_z}
-use Rattle.gm_geom.specs.declared.place.Point.{Point}
-use Rattle.gm_geom.specs.declared.place.Box2.{Box2}
+use Rattle.gm_geom.specs.declared.point.Point.{Point}
+use Rattle.gm_geom.specs.declared.point.Box2.{Box2}
 use Rattle.gm_geom.specs.Extent.{IsInBox}
 use Rattle.gm_geom.specs.Validity.{is_closed, is_same, last_after}
 use Rattle.gm_shapes.specs.declared.segment.Segment.{Segment}

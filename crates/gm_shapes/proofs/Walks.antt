@@ -5,7 +5,7 @@ use Rattle.std.specs.List.{list_any, flat_map, count_by}
 use Rattle.std.proofs.lemmas.List.Folds.{list_any-append, list_any_at}
 use Rattle.std.proofs.lemmas.List.{flat_map_more, take_more}
 use Rattle.std.proofs.lemmas.List.Sums.{sum_by-append}
-use Rattle.gm_geom.specs.declared.place.Point.{Point}
+use Rattle.gm_geom.specs.declared.point.Point.{Point}
 use Rattle.gm_shapes.specs.declared.segment.Segment.{Segment}
 use Rattle.gm_geom.specs.Geometry.{joined}
 use Rattle.gm_shapes.specs.Segment.{segment}

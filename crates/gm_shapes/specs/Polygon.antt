@@ -2,7 +2,7 @@
 use Rattle.std.specs.Prelude.{ℕ, zero, suc, pos, Bool, false, not, ◌&&◌, ◌||◌, if◌then◌else◌}
 use Rattle.std.specs.Prelude.{int_lt, int_le, List}
 use Rattle.std.specs.List.{list_any, count_by}
-use Rattle.gm_geom.specs.declared.place.Point.{Point}
+use Rattle.gm_geom.specs.declared.point.Point.{Point}
 use Rattle.gm_shapes.specs.declared.segment.Segment.{Segment}
 use Rattle.gm_shapes.specs.Segment.{side_of, do_meet}
 use Rattle.gm_shapes.specs.Edge.{lone_edge, edges_between_all}

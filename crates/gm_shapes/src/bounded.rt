@@ -1,6 +1,6 @@
 // A geometry whose bounds are looked at first.
 ghost use Rattle.std.specs.Prelude.{◌≡◌, true, None};
-ghost use Rattle.gm_geom.specs.declared.place.Point.{Point};
+ghost use Rattle.gm_geom.specs.declared.point.Point.{Point};
 ghost use Rattle.gm_geom.specs.Geometry.{areas_of, points_of};
 ghost use Rattle.gm_geom.specs.Validity.{fault_of};
 ghost use Rattle.gm_geom.specs.Extent.{HoldsAll};

@@ -1,6 +1,6 @@
 // A closed box as a polygon of four edges, and what meets it.
 ghost use Rattle.std.specs.Prelude.{◌≡◌, ◌≤ℤ◌, ◌||◌, true, None};
-ghost use Rattle.gm_geom.specs.declared.place.Point.{Point};
+ghost use Rattle.gm_geom.specs.declared.point.Point.{Point};
 ghost use Rattle.gm_geom.specs.declared.geometry.Geometry.TheVariants as geo;
 ghost use Rattle.gm_geom.specs.Geometry.{areas_of};
 ghost use Rattle.gm_geom.specs.Validity.{fault_of};

@@ -1,8 +1,8 @@
 // Laws of the definitions, for the crates above.
 ghost use Rattle.std.specs.Prelude.{◌≡◌, ◌≤ℤ◌, ◌↔◌, true, None};
 ghost use Rattle.std.specs.List.{AllByRecursion};
-ghost use Rattle.gm_geom.specs.declared.place.Point.{Point};
-ghost use Rattle.gm_geom.specs.declared.place.Box2.{Box2};
+ghost use Rattle.gm_geom.specs.declared.point.Point.{Point};
+ghost use Rattle.gm_geom.specs.declared.point.Box2.{Box2};
 ghost use Rattle.gm_geom.specs.declared.geometry.Geometry.{Geometry};
 ghost use Rattle.gm_geom.specs.declared.geometry.Geometry.TheVariants as geo;
 ghost use Rattle.gm_geom.specs.Geometry.{points_of, areas_of};

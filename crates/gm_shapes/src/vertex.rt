@@ -9,7 +9,7 @@ use gm_geom::{Areas, Geometry, Point, Points};
 
 /// A region that a point may lie in.
 pub trait Region {
-    ghost use Rattle.gm_geom.specs.declared.place.Point.{Point};
+    ghost use Rattle.gm_geom.specs.declared.point.Point.{Point};
 
     ghost held: { Self → Point → Bool };
 

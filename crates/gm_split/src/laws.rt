@@ -1,5 +1,6 @@
 // What the decomposition's definitions give.
-ghost use Rattle.std.specs.Prelude.{◌≡◌, ◌<◌, ◌≤◌, ◌⊎◌, ◌↔◌, ◌+◌, ℕ, List, [], true, length, slice_index_or, Any};
+ghost use Rattle.std.specs.Prelude.{◌≡◌, ◌<◌, ◌≤◌, ◌⊎◌, ◌↔◌, ◌+◌, ℕ, List};
+ghost use Rattle.std.specs.Prelude.{[], true, length, slice_index_or, Any};
 ghost use Rattle.gm_curve.specs.Curve.{z_code};
 ghost use Rattle.gm_curve.specs.Xz.{xz_code};
 ghost use Rattle.gm_runs.specs.Runs.{AreRuns, AreMaximalRuns, HasNumber};

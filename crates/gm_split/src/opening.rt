@@ -1,6 +1,8 @@
 // From the pieces of a level to those of the next.
-ghost use Rattle.std.specs.Prelude.{◌≡◌, ◌≤◌, ◌<◌, ◌+◌, ◌*◌, ◌^◌, length, option_to_list, OnOk, IfOk, All};
-ghost use Rattle.gm_split.specs.Opening.{piece_of, own_pieces, opened, opened_piece, weight, partials, ends, Covers, IsPieceAt, IsComing};
+ghost use Rattle.std.specs.Prelude.{◌≡◌, ◌≤◌, ◌<◌, ◌+◌, ◌*◌, ◌^◌, length};
+ghost use Rattle.std.specs.Prelude.{option_to_list, OnOk, IfOk, All};
+ghost use Rattle.gm_split.specs.Opening.{piece_of, own_pieces, opened, opened_piece, weight};
+ghost use Rattle.gm_split.specs.Opening.{partials, ends, Covers, IsPieceAt, IsComing};
 ghost use Rattle.gm_split.specs.Front.{Takes, HasNext};
 ghost use Rattle.gm_split.specs.Near.{HasNear, near_of};
 ghost use Rattle.gm_runs.specs.Runs.{AreMaximalRuns};

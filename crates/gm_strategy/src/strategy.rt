@@ -1,5 +1,6 @@
 // The plan of a filter.
-ghost use Rattle.std.specs.Prelude.{◌≡◌, ◌∷◌, [], true, false, map, IfOk, IfErr, IfSome, Some, None, MatchOption};
+ghost use Rattle.std.specs.Prelude.{◌≡◌, ◌∷◌, [], true, false, map, IfOk, IfErr};
+ghost use Rattle.std.specs.Prelude.{IfSome, Some, None, MatchOption};
 ghost use Rattle.std.specs.List.{list_all};
 ghost use Rattle.gm_types.specs.Index.{has_index};
 ghost use Rattle.gm_filter.specs.Suits.{Suits, suits};

@@ -118,27 +118,6 @@ rows_set (block ∷ blocks) (suc n) new within =
     ap (λ later. pairs_of block.rows ++ later) (rows_set blocks n new (omega arith))
     ∙ sym (append_assoc (pairs_of block.rows) (rows_of (lists_of (take n blocks))) (pairs_of new.rows ++ rows_of (lists_of (drop (suc n) blocks))))
 
-pub each_set : (blocks : List Block) (n : ℕ) (new : Block) → AllByRecursion IsBlock blocks → IsBlock new → AllByRecursion IsBlock (set blocks n new)
-each_set [] n new each is = tt
-each_set (block ∷ blocks) zero new each is = (is, each.1)
-each_set (block ∷ blocks) (suc n) new each is = (each.0, each_set blocks n new each.1 is)
-
-pub each_take : (blocks : List Block) (n : ℕ) → AllByRecursion IsBlock blocks → AllByRecursion IsBlock (take n blocks)
-each_take [] zero each = tt
-each_take [] (suc n) each = tt
-each_take (block ∷ blocks) zero each = tt
-each_take (block ∷ blocks) (suc n) each = (each.0, each_take blocks n each.1)
-
-pub each_drop : (blocks : List Block) (n : ℕ) → AllByRecursion IsBlock blocks → AllByRecursion IsBlock (drop n blocks)
-each_drop [] zero each = tt
-each_drop [] (suc n) each = tt
-each_drop (block ∷ blocks) zero each = each
-each_drop (block ∷ blocks) (suc n) each = each_drop blocks n each.1
-
-pub each_join : (xs ys : List Block) → AllByRecursion IsBlock xs → AllByRecursion IsBlock ys → AllByRecursion IsBlock (xs ++ ys)
-each_join [] ys one other = other
-each_join (x ∷ xs) ys one other = (one.0, each_join xs ys one.1 other)
-
 -- ---- a row more in a block
 pub set_more : (blocks : List Block) (n row : ℕ) (new d : Block) (put : Row) → n < length blocks → new.rows ≡ insert (get_or blocks n d).rows row put
     → rows_of (lists_of (set blocks n new)) ≡ rows_until n row blocks ++ pair_of put ∷ rows_at n row blocks

@@ -1,5 +1,6 @@
 // Changes of an ordered map, whole or not at all.
-ghost use Rattle.std.specs.Prelude.{◌≡◌, ◌≤◌, ℕ, List, None, Some, if◌then◌else◌, length, [], ◌∷◌, ◌++◌, OnOk, OnErr, IsOk};
+ghost use Rattle.std.specs.Prelude.{◌≡◌, ◌≤◌, ℕ, List, None, Some, if◌then◌else◌};
+ghost use Rattle.std.specs.Prelude.{length, [], ◌∷◌, ◌++◌, OnOk, OnErr, IsOk};
 ghost use Rattle.gm_table.specs.Sorted.{IsRising, at_key};
 ghost use Rattle.gm_table.specs.Batch.{has_key, put_at};
 ghost use Rattle.gm_table.specs.Changes.{restored_at, undone_at};

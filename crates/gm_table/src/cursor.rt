@@ -5,7 +5,8 @@ ghost use Rattle.std.specs.Cmp.Lexicographic.{slice_cmp};
 ghost use Rattle.gm_base.specs.Counter.{capped_sum};
 ghost use Rattle.gm_base.specs.Tally.{tally_number};
 ghost use Rattle.gm_table.specs.Sorted.{IsRising, Rows, between};
-ghost use Rattle.gm_table.specs.Cursor.{pending, rows_from, rows_below, rows_after, IsAt, IsClear, IsLastOf};
+ghost use Rattle.gm_table.specs.Cursor.{pending, rows_from, rows_below, rows_after};
+ghost use Rattle.gm_table.specs.Cursor.{IsAt, IsClear, IsLastOf};
 ghost use Rattle.gm_table.specs.Visit.{Handed, Stops};
 
 use crate::Visit;

@@ -1,6 +1,7 @@
 // Laws of rows and batches, for proofs about tables. Each is the contract of a function that does
 // nothing.
-ghost use Rattle.std.specs.Prelude.{◌≡◌, ◌++◌, ◌∷◌, ℕ, List, Option, IsTrue, true, false, map, if◌then◌else◌};
+ghost use Rattle.std.specs.Prelude.{◌≡◌, ◌++◌, ◌∷◌, ℕ, List, Option, IsTrue};
+ghost use Rattle.std.specs.Prelude.{true, false, map, if◌then◌else◌};
 ghost use Rattle.std.specs.FinMap.{entries, get, retain_keys};
 ghost use Rattle.gm_table.specs.Batch.{are_distinct, has_key, applied_at};
 ghost use Rattle.gm_table.specs.Row.{key_of};

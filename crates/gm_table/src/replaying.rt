@@ -1,5 +1,6 @@
 // Changes of a table, one after the other.
-ghost use Rattle.std.specs.Prelude.{◌≡◌, ◌≤◌, ◌++◌, ℕ, List, All, IsTrue, OnOk, OnErr, length, map, take};
+ghost use Rattle.std.specs.Prelude.{◌≡◌, ◌≤◌, ◌++◌, ℕ, List, All, IsTrue};
+ghost use Rattle.std.specs.Prelude.{OnOk, OnErr, length, map, take};
 ghost use Rattle.gm_table.specs.Batch.{are_distinct};
 ghost use Rattle.gm_table.specs.Replaying.{replayed_at};
 ghost use Rattle.gm_table.specs.Row.{key_of};

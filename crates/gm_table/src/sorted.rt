@@ -1,5 +1,6 @@
 // What a sorted table is, whichever way it is kept.
-ghost use Rattle.std.specs.Prelude.{◌≡◌, ◌≤◌, ℕ, All, slice_range, OnOk, OnErr, IfErr, IsOk, IsTrue, is_some, if◌then◌else◌, length, [], ◌++◌, map, List};
+ghost use Rattle.std.specs.Prelude.{◌≡◌, ◌≤◌, ℕ, All, slice_range, OnOk, OnErr, IfErr, IsOk};
+ghost use Rattle.std.specs.Prelude.{IsTrue, is_some, if◌then◌else◌, length, [], ◌++◌, map, List};
 ghost use Rattle.std.specs.Option.{option_copied};
 ghost use Rattle.gm_base.specs.Counter.{capped_sum};
 ghost use Rattle.gm_table.specs.Sorted.{Rows, IsRising, at_key, between};

@@ -1,5 +1,6 @@
 // Which cells and codes the nodes at the ends of paths have.
-ghost use Rattle.std.specs.Prelude.{◌≡◌, ◌≤◌, ◌<◌, ◌-◌, ◌*◌, ◌/◌, ◌^◌, ◌⊎◌, ◌↔◌, ℕ, List, [], Some, length, slice_index_or};
+ghost use Rattle.std.specs.Prelude.{◌≡◌, ◌≤◌, ◌<◌, ◌-◌, ◌*◌, ◌/◌, ◌^◌, ◌⊎◌, ◌↔◌};
+ghost use Rattle.std.specs.Prelude.{ℕ, List, [], Some, length, slice_index_or};
 ghost use Rattle.gm_curve.specs.Listing.{listing, place_in};
 ghost use Rattle.gm_curve.specs.Xz.{level_of, sequence_of};
 ghost use Rattle.gm_trees.specs.Tree.{walk, HasCode, AreChildNumbers};

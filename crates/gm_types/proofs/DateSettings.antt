@@ -20,10 +20,3 @@ date_given t name place given named =
 pub date_unknown : (t : Specification) (name : List ℕ) → Some name ≡ setting_of t (codes "geomesa.index.dtg")
     → IsDateNamed t name None → IsDateSetting t None
 date_unknown t name given none = ap (is_met (is_date_name t)) (sym given) ∙ none
-
-pub named_none : (t : Specification) (name : List ℕ) → None ≡ place_of_name t name → IsDateNamed t name None
-named_none t name e = ap (λ o. is_date_kind (option_and_then (kind_at t) o)) (sym e)
-
-pub named_at : (t : Specification) (name : List ℕ) (place : ℕ) (b : Bool) → Some place ≡ place_of_name t name → b ≡ is_date_kind (kind_at t place)
-    → b ≡ is_date_name t name
-named_at t name place b e h = h ∙ ap (λ o. is_date_kind (option_and_then (kind_at t) o)) e

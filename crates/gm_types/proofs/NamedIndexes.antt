@@ -94,11 +94,6 @@ attribute_found t name (a ∷ list) from there distinct =
         ∙ rest ∙ ap (index_if t) (sym (further from (position (λ (a : Attribute). same_text a.name name) list)))
         ∙ sym (ap (λ o. index_if t (option_map (λ k. Attr (from + k)) o)) (position_later (λ (a : Attribute). same_text a.name name) a list e))
 
--- the names that are no attribute's
-id_other : (o : Option Attribute) → same_text (codes "id") (attribute_index_name o) ≡ false
-id_other None = refl
-id_other (Some a) = refl
-
 z2_other : (o : Option Attribute) → same_text (codes "z2") (attribute_index_name o) ≡ false
 z2_other None = refl
 z2_other (Some a) = refl

@@ -12,12 +12,6 @@ use Rattle.std.proofs.lemmas.Map.Text.{is_eq-slice_cmp}
 use Rattle.gm_types.specs.Distinct.{has_text, Notes}
 use Rattle.gm_types.specs.Words.{are_distinct, same_text}
 
-or_comm : (a b : Bool) → (a || b) ≡ (b || a)
-or_comm true true = refl
-or_comm true false = refl
-or_comm false true = refl
-or_comm false false = refl
-
 pub same_list : (a b : List ℕ) → same_text a b ≡ true → a ≡ b
 same_list [] [] e = refl
 same_list [] (y ∷ ys) e = absurd (cc)

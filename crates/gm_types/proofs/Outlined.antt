@@ -61,31 +61,6 @@ unfolding outline_of
 outline_cut name number text front rest e =
     ap (λ c. outline_with name number (stars_of (front_of text c)) (attributes_of (front_of text c)) (data_of (behind_of c))) (sym e)
 
-pub not_distinct : (t : Specification) → false ≡ (are_distinct (names_of t) && are_distinct (datum_keys t.data)) → consistent_only (Some t) ≡ None
-not_distinct t e = ap (λ b. specification_if b t) (go (are_distinct (names_of t)) (are_distinct (datum_keys t.data)) (has_settings t) (sym e))
-  where
-    go : (a b c : Bool) → (a && b) ≡ false → (a && (b && c)) ≡ false
-    go true b c h = ap (λ d. d && c) h
-    go false b c h = refl
-
-pub not_set : (t : Specification) → has_settings t ≡ false → consistent_only (Some t) ≡ None
-not_set t e = ap (λ b. specification_if b t) (go (are_distinct (names_of t)) (are_distinct (datum_keys t.data)) (has_settings t) e)
-  where
-    go : (a b c : Bool) → c ≡ false → (a && (b && c)) ≡ false
-    go true true c h = h
-    go true false c h = refl
-    go false b c h = refl
-
-pub consistent : (t : Specification) → true ≡ (are_distinct (names_of t) && are_distinct (datum_keys t.data)) → has_settings t ≡ true
-    → Some t ≡ consistent_only (Some t)
-consistent t e h =
-    let parts = and_parts (are_distinct (names_of t)) (are_distinct (datum_keys t.data)) (sym e) in
-    ap (λ b. specification_if b t) (sym (and_from (are_distinct (names_of t)) (are_distinct (datum_keys t.data) && has_settings t) parts.0
-    (and_from (are_distinct (datum_keys t.data)) (has_settings t) parts.1 h)))
-
-pub answer_moved : (wanted other : Option Specification) (r : Result Specification SpecFault) → wanted ≡ other → IsReadAs wanted r → IsReadAs other r
-answer_moved wanted other r e h = subst (λ (w : Option Specification). IsReadAs w r) e h
-
 -- what is read has the name and the number, and breaks no rule
 pub read_valid : (name : List ℕ) (number : ℕ) (text : List ℕ) (t : Specification) → specification_of name number text ≡ Some t → IsReadType name number t
 read_valid name number text t e = go (outline_of name number text) refl e

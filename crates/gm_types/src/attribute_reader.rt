@@ -1,7 +1,8 @@
 // Attributes, read from a specification.
 ghost use Rattle.std.specs.Prelude.{◌≡◌, find, Some, None, IfOk};
 ghost use Rattle.std.specs.Option.{option_copied};
-ghost use Rattle.gm_types.specs.Attribute.{asks_index, attribute_from, has_option, is_cardinality, is_index_value, is_indexed, may_have};
+ghost use Rattle.gm_types.specs.Attribute.{asks_index, attribute_from, has_option, is_cardinality};
+ghost use Rattle.gm_types.specs.Attribute.{is_index_value, is_indexed, may_have};
 ghost use Rattle.gm_types.specs.Kind.{is_geometry};
 ghost use Rattle.gm_types.specs.Halt.{Reads, Adds};
 ghost use Rattle.gm_types.specs.Parts.{parts_of};

@@ -3,9 +3,12 @@ ghost use Rattle.std.specs.Prelude.{◌≡◌, ◌<◌, ◌≤◌, slice_get, Is
 ghost use Rattle.gm_types.specs.declared.index.IndexKind.{IndexKind};
 ghost use Rattle.gm_types.specs.Facts.{AreFactsOf};
 ghost use Rattle.gm_types.specs.FeatureType.{IsType, IsGeometryAt, IsDateAt};
-ghost use Rattle.gm_types.specs.Index.{fits_index, has_index, index_meant, index_name, index_of_name, is_indexed_one};
+ghost use Rattle.gm_types.specs.Index.{fits_index, has_index, index_meant, index_name};
+ghost use Rattle.gm_types.specs.Index.{index_of_name, is_indexed_one};
 ghost use Rattle.gm_types.specs.Outline.{outlined};
-ghost use Rattle.gm_types.specs.Specification.{place_of_name, default_geometry_of, default_date_of, period_of, shards_of, precision_of, z2_bits_of, z3_bits_of, is_precision, is_z2_width, is_z3_width};
+ghost use Rattle.gm_types.specs.Specification.{place_of_name, default_geometry_of, default_date_of};
+ghost use Rattle.gm_types.specs.Specification.{period_of, shards_of, precision_of, z2_bits_of};
+ghost use Rattle.gm_types.specs.Specification.{z3_bits_of, is_precision, is_z2_width, is_z3_width};
 
 use crate::copies::copy_outline;
 use crate::dates::place_named;

@@ -1,5 +1,6 @@
 // The types of a store.
-ghost use Rattle.std.specs.Prelude.{◌≡◌, ◌<◌, ◌++◌, ◌∷◌, [], ◌↔◌, None, length, position, slice_get, IsTrue, IfSome, OnOk, OnErr};
+ghost use Rattle.std.specs.Prelude.{◌≡◌, ◌<◌, ◌++◌, ◌∷◌, [], ◌↔◌, None, length, position};
+ghost use Rattle.std.specs.Prelude.{slice_get, IsTrue, IfSome, OnOk, OnErr};
 ghost use Rattle.std.specs.Option.{option_copied};
 ghost use Rattle.gm_types.specs.Types.{AreTypes, number_of_name};
 ghost use Rattle.gm_types.specs.Words.{same_text};

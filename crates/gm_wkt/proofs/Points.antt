@@ -2,7 +2,7 @@
 use Rattle.std.proofs.Common.{◌≡◌, ℕ, Bool, true, false, ◌==◌, cond, List, [], ◌∷◌, ◌++◌, Some, None, inl, inr, refl, sym, ap, ◌∙◌, subst, arith, eqb-true}
 use Rattle.std.specs.Option.{option_map, option_and_then}
 use Rattle.std.proofs.lemmas.Bool.Decides.{nat_tests}
-use Rattle.gm_geom.specs.declared.place.Point.{Point}
+use Rattle.gm_geom.specs.declared.point.Point.{Point}
 use Rattle.gm_geom.specs.Number.{is_number_byte}
 use Rattle.gm_wkt.specs.Grammar.{SpellsPosition, SpellsLone, SpellsMember}
 use Rattle.gm_wkt.specs.Reading.{skip_blanks, behind, position_at, closed_at, lone_inside, lone_at, opens, point_at, SpellsPoint, Starts, Ends, Takes}

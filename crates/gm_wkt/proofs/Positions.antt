@@ -3,7 +3,7 @@ use Rattle.std.proofs.Common.{◌≡◌, ℕ, ◌<◌, Bool, true, false, cond, 
 use Rattle.std.proofs.lemmas.Bool.{and_parts}
 use Rattle.std.specs.List.{list_all}
 use Rattle.std.specs.Option.{option_map, option_and_then}
-use Rattle.gm_geom.specs.declared.place.Point.{Point}
+use Rattle.gm_geom.specs.declared.point.Point.{Point}
 use Rattle.gm_geom.specs.Number.{is_number_byte}
 use Rattle.gm_wkt.specs.Grammar.{is_blank, AreBlanks, coordinate_of, SpellsNumber, SpellsPosition}
 use Rattle.gm_wkt.specs.Reading.{skip_blanks, number_run, number_at, begins_blank, second_at, position_at, Starts, Ends, Takes}

@@ -1,7 +1,7 @@
 -- What each step of a reader says, over plain variables.
 use Rattle.std.proofs.Common.{◌≡◌, ℕ, Bool, true, false, List, [], ◌∷◌, ◌++◌, Some, None, Result, Ok, Err, sym, ap, ◌∙◌, subst, append_assoc}
 use Rattle.std.specs.Result.{IfOk}
-use Rattle.gm_geom.specs.declared.place.Point.{Point}
+use Rattle.gm_geom.specs.declared.point.Point.{Point}
 use Rattle.gm_wkt.specs.declared.halt.Halt.{Halt}
 use Rattle.gm_wkt.specs.Grammar.{SpellsMember, SpellsList}
 use Rattle.gm_wkt.specs.Reading.{skip_blanks, behind, point_at, SpellsPoint, separator, separator_at, Starts, Ends, Takes, UpTo}

@@ -1,6 +1,6 @@
 -- A text spells at most one geometry.
 use Rattle.std.proofs.Common.{◌≡◌, ℕ, Bool, true, false, List, [], ◌∷◌, ◌++◌, drop, Some, refl, sym, ap, ◌∙◌, subst}
-use Rattle.gm_geom.specs.declared.place.Point.{Point}
+use Rattle.gm_geom.specs.declared.point.Point.{Point}
 use Rattle.gm_geom.specs.declared.geometry.Geometry.{Geometry}
 use Rattle.gm_geom.specs.declared.geometry.Geometry.TheVariants as geo
 use Rattle.gm_wkt.specs.Grammar.{SpellsMember, SpellsList, SpellsPosition, SpellsLine, SpellsRings, SpellsLoose, SpellsBody, SpellsText, keyword_of}

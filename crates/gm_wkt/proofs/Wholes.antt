@@ -1,6 +1,6 @@
 -- A value that a whole text spells.
 use Rattle.std.proofs.Common.{◌≡◌, ℕ, List, [], ◌∷◌, ◌++◌, Option, Some, None, Result, Ok, Err, map, take, drop, refl, sym, ap, ◌∙◌, subst, append-nil, true, false, length, ◌==◌, eqb-true, arith}
-use Rattle.gm_geom.specs.declared.place.Point.{Point}
+use Rattle.gm_geom.specs.declared.point.Point.{Point}
 use Rattle.std.specs.Char.{to_ascii_lowercase}
 use Rattle.gm_geom.specs.declared.geometry.Geometry.{Geometry}
 use Rattle.gm_geom.specs.Validity.{fault_of}

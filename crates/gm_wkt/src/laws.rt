@@ -1,9 +1,10 @@
 // Laws of the definitions, for the crates above.
-ghost use Rattle.std.specs.Prelude.{◌≡◌, ◌↔◌, ◌<◌, ◌==◌, List, ℕ, length, true, false, None, Some, Ok};
+ghost use Rattle.std.specs.Prelude.{◌≡◌, ◌↔◌, ◌<◌, ◌==◌, List, ℕ, length};
+ghost use Rattle.std.specs.Prelude.{true, false, None, Some, Ok};
 ghost use Rattle.std.specs.List.{list_all, list_any};
 ghost use Rattle.gm_geom.specs.declared.geometry.Geometry.{Geometry};
 ghost use Rattle.gm_geom.specs.declared.geometry.Geometry.TheVariants as geo;
-ghost use Rattle.gm_geom.specs.declared.place.Point.{Point};
+ghost use Rattle.gm_geom.specs.declared.point.Point.{Point};
 ghost use Rattle.gm_geom.specs.Validity.{fault_of};
 ghost use Rattle.gm_wkt.specs.Answer.{answer_of};
 ghost use Rattle.gm_wkt.specs.Grammar.{SpellsText, line_feed};

@@ -3,7 +3,8 @@ ghost use Rattle.std.specs.Prelude.{◌≡◌, ◌++◌, ◌∷◌, List, ℕ, B
 ghost use Rattle.gm_wkt.specs.Grammar.{SpellsMember, SpellsList};
 ghost use Rattle.gm_wkt.specs.Reading as spec;
 ghost use Rattle.gm_wkt.specs.Starting.{point_starts, list_starts};
-ghost use Rattle.gm_wkt.specs.Reading.{Takes, Ends, Starts, UpTo, OnlyMemory, SpellsPoint, separator};
+ghost use Rattle.gm_wkt.specs.Reading.{Takes, Ends, Starts, UpTo, OnlyMemory};
+ghost use Rattle.gm_wkt.specs.Reading.{SpellsPoint, separator};
 
 use crate::halt::Halt;
 use crate::position::{behind, point_at, skip_blanks};

@@ -158,7 +158,8 @@ fn scan_kept<B: Sorted>(
     tally: &mut B::Tally,
 ) -> Result<(), NoMemory>
     requires suits { Suits of.now (tree filter.now) }
-    requires features { All (λ row. HasFeature of.now row.1) (rows_in spans.now (B.rows table.now)) }
+    requires features { All (λ row. HasFeature of.now row.1)
+        (rows_in spans.now (B.rows table.now)) }
     ensures found { (held : List Feature) → Hold of.now (rows_in spans.now (B.rows table.now)) held
         → OnOk result (rows.new ≡ rows.old
         ++ map (kept_of keeping) (matching (tree filter.now) held)) }

@@ -1,5 +1,6 @@
 // Changes of a table of blocks, whole or not at all.
-ghost use Rattle.std.specs.Prelude.{◌≡◌, ◌≤◌, ℕ, List, None, if◌then◌else◌, length, [], ◌∷◌, ◌++◌, OnOk, OnErr, IsOk};
+ghost use Rattle.std.specs.Prelude.{◌≡◌, ◌≤◌, ℕ, List, None, if◌then◌else◌, length};
+ghost use Rattle.std.specs.Prelude.{[], ◌∷◌, ◌++◌, OnOk, OnErr, IsOk};
 ghost use Rattle.gm_table.specs.Batch.{has_key, put_at};
 ghost use Rattle.gm_table.specs.BlockTable.{blocks_of};
 ghost use Rattle.gm_table.specs.Blocks.{rows_of};

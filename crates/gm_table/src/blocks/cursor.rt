@@ -1,11 +1,13 @@
 // Spans of keys handed out from blocks, each from where the last one ended.
-ghost use Rattle.std.specs.Prelude.{◌≡◌, ◌≤◌, [], ◌∷◌, ℕ, All, slice_range, OnOk, IfOk, IfErr, IfSome, MatchOption, length, true};
+ghost use Rattle.std.specs.Prelude.{◌≡◌, ◌≤◌, [], ◌∷◌, ℕ, All, slice_range, OnOk, IfOk};
+ghost use Rattle.std.specs.Prelude.{IfErr, IfSome, MatchOption, length, true};
 ghost use Rattle.std.specs.List.{AllByRecursion};
 ghost use Rattle.std.specs.Ordering.{nat_cmp, is_le};
 ghost use Rattle.std.specs.Cmp.Lexicographic.{slice_cmp};
 ghost use Rattle.gm_base.specs.Counter.{capped_sum};
 ghost use Rattle.gm_base.specs.Tally.{tally_number};
-ghost use Rattle.gm_table.specs.Blocks.{IsAtKey, IsBlock, IsPlace, lists_of, pair_of, rows_of, rows_at};
+ghost use Rattle.gm_table.specs.Blocks.{IsAtKey, IsBlock, IsPlace, lists_of};
+ghost use Rattle.gm_table.specs.Blocks.{pair_of, rows_of, rows_at};
 ghost use Rattle.gm_table.specs.Cursor.{rows_below, rows_after};
 ghost use Rattle.gm_table.specs.Sorted.{IsRising, Rows, between};
 ghost use Rattle.gm_table.specs.Spans.{rows_in};

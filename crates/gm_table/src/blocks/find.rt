@@ -1,7 +1,8 @@
 // Whether blocks have a row of a key, and where it stands or would stand.
 ghost use Rattle.std.specs.Prelude.{◌≡◌, ◌≤◌, ◌<◌, [], length, IfOk, IfErr, slice_index_or};
 ghost use Rattle.std.specs.List.{AllByRecursion};
-ghost use Rattle.gm_table.specs.Blocks.{IsBlock, IsGap, IsPlace, IsRowAt, lists_of, rows_at, rows_of, rows_until};
+ghost use Rattle.gm_table.specs.Blocks.{IsBlock, IsGap, IsPlace, IsRowAt, lists_of};
+ghost use Rattle.gm_table.specs.Blocks.{rows_at, rows_of, rows_until};
 ghost use Rattle.gm_table.specs.declared.blocks.block.Block.{Block};
 ghost use Rattle.gm_table.specs.Sorted.{IsRising};
 

@@ -3,7 +3,8 @@ ghost use Rattle.std.specs.Prelude.{◌≡◌, ◌≤◌, length, take, drop, no
 ghost use Rattle.std.specs.Ordering.{nat_cmp, is_le};
 ghost use Rattle.std.specs.Cmp.Lexicographic.{slice_cmp};
 ghost use Rattle.std.specs.List.{AllByRecursion, AllWithin};
-ghost use Rattle.gm_table.specs.Blocks.{IsBlock, IsPlace, first_key, lists_of, pairs_of, rows_of, rows_at, rows_until};
+ghost use Rattle.gm_table.specs.Blocks.{IsBlock, IsPlace, first_key, lists_of, pairs_of};
+ghost use Rattle.gm_table.specs.Blocks.{rows_of, rows_at, rows_until};
 ghost use Rattle.gm_table.specs.Cursor.{rows_below, rows_after};
 ghost use Rattle.gm_table.specs.Sorted.{IsRising};
 

@@ -1,7 +1,7 @@
 use Rattle.std.proofs.Common.{◌≡◌, ◌≢◌, List, Bool, ◌∷◌, [], ◌++◌, map, option_map, ℕ, ◌<◌, ◌≤◌, length, drop, nat_lt, sym, refl, ap, ◌∙◌, arith}
 use Rattle.gm_ecql.specs.Tokens.{Seen, Spells, seen, seen_spaced}
 use Rattle.gm_ecql.specs.Scanning.{token_at}
-use Rattle.gm_ecql.proofs.Lists.{Keeps, keeps_start, keeps_step, keeps_none, keeps_end, token_shorter, mapped_push, empty_list, some_list}
+use Rattle.gm_ecql.proofs.Lists.{Keeps, keeps_step, keeps_none, keeps_end, token_shorter, mapped_push, empty_list, some_list}
 use Rattle.gm_ecql.proofs.scanner.tokens_from.Goals as goal
 
 pub tokens-smaller : goal.tokens-smaller

@@ -1,6 +1,6 @@
 use Rattle.std.proofs.Common.{sym, ◌∙◌, subst, Option}
 use Rattle.std.specs.Option.{IsSome}
-use Rattle.gm_geom.specs.declared.place.Box2.{Box2}
+use Rattle.gm_geom.specs.declared.point.Box2.{Box2}
 use Rattle.gm_geom.proofs.Extents.{extent_is_least, extent_some}
 use Rattle.gm_geom.proofs.extent.bounds.Goals as goal
 

@@ -1,6 +1,6 @@
 use Rattle.std.proofs.Common.{sym, ◌∙◌, subst}
 use Rattle.gm_filter.specs.Tree.{tree}
-use Rattle.gm_geom.specs.declared.place.Box2.{Box2}
+use Rattle.gm_geom.specs.declared.point.Box2.{Box2}
 use Rattle.gm_plan.proofs.Few.{IsFew, few_boxes}
 use Rattle.gm_plan.proofs.bounds.box_list.Goals as goal
 

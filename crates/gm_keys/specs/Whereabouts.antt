@@ -5,8 +5,8 @@ use Rattle.gm_calendar.specs.Bin.{bin_at}
 use Rattle.gm_calendar.specs.declared.bin.Bin.{Bin}
 use Rattle.gm_geom.specs.declared.geometry.Geometry.{Geometry}
 use Rattle.gm_geom.specs.declared.geometry.Geometry.TheVariants as geo
-use Rattle.gm_geom.specs.declared.place.Point.{Point}
-use Rattle.gm_geom.specs.declared.place.Box2.{Box2}
+use Rattle.gm_geom.specs.declared.point.Point.{Point}
+use Rattle.gm_geom.specs.declared.point.Box2.{Box2}
 use Rattle.gm_geom.specs.Extent.{extent_of}
 use Rattle.gm_geom.specs.Geometry.{points_of}
 use Rattle.gm_types.specs.declared.index.IndexKind.{IndexKind}

@@ -1,6 +1,6 @@
 use Rattle.gm_geom.specs.Geometry.{points_of}
 use Rattle.gm_keys.proofs.Places.{extent_in_world, kept_in_world}
-use Rattle.gm_keys.proofs.place.extent.Goals as goal
+use Rattle.gm_keys.proofs.whereabouts.extent.Goals as goal
 
 pub returns-clause-in_world : goal.returns-clause-in_world
 returns-clause-in_world c =

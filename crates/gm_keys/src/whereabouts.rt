@@ -6,7 +6,7 @@ ghost use Rattle.gm_geom.specs.Validity.{fault_of, is_in_world};
 ghost use Rattle.gm_types.specs.Specification.{period_of};
 ghost use Rattle.gm_feature.specs.Feature.{Fits};
 ghost use Rattle.gm_keys.specs.Cell.{IsBoxInWorld};
-ghost use Rattle.gm_keys.specs.Place as spec;
+ghost use Rattle.gm_keys.specs.Whereabouts as spec;
 
 use gm_calendar::{Bin, Instant, bin_of};
 use gm_feature::{Feature, Value};

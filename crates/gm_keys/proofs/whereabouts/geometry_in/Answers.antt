@@ -2,7 +2,7 @@ use Rattle.std.proofs.Common.{ap, ◌∙◌, get_or}
 use Rattle.gm_types.specs.Specification.{kinds_of}
 use Rattle.gm_feature.specs.declared.value.Value.TheVariants as value
 use Rattle.gm_keys.proofs.Places.{kept_at}
-use Rattle.gm_keys.proofs.place.geometry_in.Goals as goal
+use Rattle.gm_keys.proofs.whereabouts.geometry_in.Goals as goal
 
 pub returns-in-Some-Geo-clause-kept : goal.returns-in-Some-Geo-clause-kept
 returns-in-Some-Geo-clause-kept c =
