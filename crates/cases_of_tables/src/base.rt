@@ -1,6 +1,6 @@
 // Cases of bytes, texts, identifiers and spans.
 use crate::words;
-use gm_base::{Bytes, Counter, FeatureId, IdFault, Items, NoMemory, SpanList, Tally, Text};
+use gm_base::{Bytes, Counter, FeatureId, IdFault, Items, NoMemory, Prefix, SpanList, Tally, Text};
 use std::alloc::Global;
 
 pub fn answer(alloc: Global, word: &str, rest: &str) -> Result<String, NoMemory> {
@@ -44,13 +44,15 @@ fn grow(alloc: Global, pieces: u32) -> Result<String, NoMemory> {
     Ok(format!(in alloc; "{}", bytes.len())?)
 }
 
-// The number of so many spans and the ends of the last, made in a list of its own and in one that
-// had its room before.
+// The number of so many spans and the ends of the last, made in a list of its own and, behind a
+// prefix, in one that had its room and other spans before.
 fn spans(alloc: Global, count: u64) -> Result<String, NoMemory> {
     let mut list = SpanList::new(alloc);
     fill(&mut list, count)?;
     let mut roomy = SpanList::with_capacity(alloc, 8, 8 * 20)?;
-    fill(&mut roomy, count)?;
+    fill(&mut roomy, 8)?;
+    roomy.clear();
+    fill_behind(&mut roomy, count)?;
     let last = list.len();
     if last == 0 || roomy.len() != last {
         return words::text(alloc, "none");
@@ -65,6 +67,17 @@ fn fill(list: &mut SpanList, count: u64) -> Result<(), NoMemory> {
         let low = code.to_be_bytes();
         let high = code.wrapping_add(1).to_be_bytes();
         list.push(&[&[7], &low], &[&[7], &high])?;
+    }
+    Ok(())
+}
+
+// The same spans, whose ends have a prefix and then bytes of a fixed number.
+fn fill_behind(list: &mut SpanList, count: u64) -> Result<(), NoMemory> {
+    let prefix = Prefix::of(&[7]);
+    for code in 0..count {
+        let low = code.to_be_bytes();
+        let high = code.wrapping_add(1).to_be_bytes();
+        list.push_behind(&prefix, &low, &high, 8)?;
     }
     Ok(())
 }

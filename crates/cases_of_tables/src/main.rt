@@ -3,6 +3,7 @@
 #![tactic(auto)]
 
 mod base;
+mod block;
 mod outside;
 mod table;
 mod words;
@@ -33,6 +34,7 @@ fn answer(alloc: Global, case: &str) -> Result<String, NoMemory> {
     match word {
         "identify" | "keep" | "grow" | "spans" | "count" => base::answer(alloc, word, rest),
         "reads" | "writes" | "flushes" | "folder" => outside::answer(alloc, word, rest),
+        "block" | "block_of" => block::answer(alloc, word, rest),
         "find" | "scan" | "scan_spans" | "rows" => table::answer(alloc, word, rest),
         _ => words::text(alloc, "no such case"),
     }

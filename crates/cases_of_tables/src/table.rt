@@ -1,6 +1,6 @@
 // Cases of tables.
-ghost use Rattle.std.specs.Prelude.{IfOk, IsTrue, ◌++◌, map};
-ghost use Rattle.gm_table.specs.Batch.{are_distinct};
+ghost use Rattle.std.specs.Prelude.{◌≡◌, IfOk, IsTrue, ◌++◌, map};
+ghost use Rattle.gm_table.specs.Batch.{are_distinct, has_key};
 ghost use Rattle.gm_table.specs.Row.{key_of};
 
 use crate::words;
@@ -301,12 +301,43 @@ fn replayed<B: Sorted<Tally = Tally>>(
     )?)
 }
 
-// Takes the rows with these keys out, one after the other.
+// Takes the rows with these keys out, all by one batch.
 fn take_all_out<B: Sorted>(alloc: Global, table: &mut B, count: u64) -> Result<(), NoMemory> {
+    let mut keys = Vec::new(alloc);
     for i in 0..count {
-        table.apply(alloc, &removal(alloc, &i.to_be_bytes())?)?;
+        keys.push(Bytes::from_slice(alloc, &i.to_be_bytes())?)?;
+    }
+    let batch = Batch {
+        removes: Items::from_vec(keys),
+        puts: Items::new(alloc),
+    };
+    if is_distinct(&batch) {
+        table.apply(alloc, &batch)?;
     }
     Ok(())
+}
+
+// Whether the batch puts nothing and no two of its keys are equal.
+fn is_distinct(batch: &Batch) -> bool
+    ensures { IsTrue result → IsTrue
+        (are_distinct (batch.now.removes ++ map key_of batch.now.puts)) }
+{
+    batch.puts.is_empty() && are_keys_distinct(batch.removes.as_slice())
+}
+
+fn are_keys_distinct(keys: &[Bytes]) -> bool
+    ensures { result ≡ are_distinct keys.now }
+{
+    match keys {
+        [] => true,
+        [first, rest @ ..] => !is_among(first, rest) && are_keys_distinct(rest),
+    }
+}
+
+fn is_among(key: &Bytes, keys: &[Bytes]) -> bool
+    ensures { result ≡ has_key key.now keys.now }
+{
+    keys.iter().any(|other| key.cmp(other).is_eq())
 }
 
 // The rows of spans of so many rows, each so many rows behind the one before.

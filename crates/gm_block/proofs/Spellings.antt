@@ -1,5 +1,5 @@
 -- Bytes that parts spell, of which there is one reading.
-use Rattle.std.proofs.Common.{◌≡◌, ◌∙◌, ◌++◌, ◌∷◌, ◌+◌, ◌<◌, ◌≤◌, ◌^◌, ℕ, zero, suc, List, [], length, take, drop, get_or, refl, sym, ap, subst, arith, append_assoc, length-append}
+use Rattle.std.proofs.Common.{◌≡◌, ◌∙◌, ◌++◌, ◌∷◌, ◌+◌, ◌*◌, ◌/◌, ◌<◌, ◌≤◌, ◌^◌, ℕ, List, [], length, take, drop, get_or, refl, sym, ap, subst, arith, append_assoc, length-append}
 use Rattle.std.proofs.lemmas.Grind.{common_steps}
 use Rattle.std.proofs.lemmas.List.{append-nil, take_more}
 use Rattle.std.specs.List.{AllByRecursion}
@@ -101,6 +101,30 @@ no_rest count read rows rest bytes are short all whole =
     let first = first_rows read rows rest short are.short (omega (arith, all, are.count_is)) (sym are.spelled ∙ whole) in
     let none = none_left read first.0 count (sym (ap length first.1) ∙ are.count_is) all in
     sym first.2 ∙ ap rows_bytes none
+
+-- so many rows have 8 bytes each, or more
+rows_long : (rows : List Row) → 8 * length rows ≤ length (rows_bytes rows)
+rows_long [] = omega arith
+rows_long (row ∷ rows) =
+    let later = rows_long rows in
+    omega (arith, later, length-append (row_bytes row) (rows_bytes rows), length-append (part_bytes row.key) (part_bytes row.bytes), length-append (to_be_bytes w32 (length row.key)) row.key, length-append (to_be_bytes w32 (length row.bytes)) row.bytes)
+
+pub too_few : (count : ℕ) (rows : List Row) (bytes : List ℕ) → AreRows count rows bytes → length bytes / 8 < count → ⊥
+too_few count rows bytes are few =
+    let long = rows_long rows in
+    let spelled = ap length are.spelled in
+    omega (arith, few, long, spelled, are.count_is)
+
+append-nil-rows : (rows : List Row) → rows ++ [] ≡ rows
+append-nil-rows [] = refl
+append-nil-rows (row ∷ rows) = ap (λ later. row ∷ later) (append-nil-rows rows)
+
+-- rows with the same bytes are one, behind their number
+pub same_rows : (one other : List Row) → AllByRecursion IsShort one → AllByRecursion IsShort other → length one ≡ length other → rows_bytes one ≡ rows_bytes other → one ≡ other
+same_rows one other short few many whole =
+    let first = first_rows one other [] short few (omega (arith, many)) (sym whole ∙ sym (append-nil (rows_bytes one))) in
+    let none = none_left one first.0 (length other) (sym (ap length first.1)) many in
+    sym (append-nil-rows one) ∙ ap (λ later. one ++ later) (sym none) ∙ sym first.1
 
 pub laid : (a b c k p : List ℕ) → ((a ++ (b ++ c)) ++ k) ++ p ≡ a ++ (b ++ (c ++ (k ++ p)))
 laid a b c k p = simp append_assoc

@@ -15,6 +15,9 @@ const MARK: &[u8] = b"GMBK0001";
 // How many rows a block has at most.
 const MOST: u32 = 4096;
 
+// How many bytes a row has at least: the lengths of its key and of its bytes.
+const LEAST: usize = 8;
+
 /// The bytes of these rows, each key and bytes of which are shorter than 2^32.
 pub fn write_block(alloc: Global, rows: &RowList) -> Result<Bytes, NoMemory>
     requires { IsBlock rows.now }
@@ -29,8 +32,8 @@ pub fn write_block(alloc: Global, rows: &RowList) -> Result<Bytes, NoMemory>
     Ok(text)
 }
 
-/// The rows of a block with these bytes. None where there is no such block. Memory is taken row by
-/// row, whatever number the bytes claim.
+/// The rows of a block with these bytes. None where there is no such block. Before memory is asked
+/// for, the number of rows that the bytes claim is compared with how many there are.
 pub fn read_block(alloc: Global, bytes: &[u8]) -> Result<Option<RowList>, NoMemory>
     ensures { IfOk result (λ found. MatchOption found
         ((rows : List Row) → IsBlock rows → bytes.now ≡ block_bytes rows → ⊥)
@@ -68,13 +71,16 @@ fn read_head(bytes: &[u8]) -> Option<(u32, &[u8])>
     Some((count, rest))
 }
 
-// So many rows. None where these are not the bytes of so many.
+// So many rows, at most `MOST`. None where these are not the bytes of so many.
 fn read_rows(alloc: Global, bytes: &[u8], count: u32) -> Result<Option<Vec<Row>>, NoMemory>
     ensures { IfOk result (λ found. MatchOption found
         ((rows : List Row) → AreRows count rows bytes.now → ⊥)
         (λ rows. AreRows count rows.items bytes.now)) }
 {
-    let mut rows = Vec::new(alloc);
+    if bytes.len() / LEAST < count as usize {
+        return Ok(None);
+    }
+    let mut rows = Vec::with_capacity(alloc, count as usize)?;
     let mut rest = bytes;
     'rows: for _ in 0..count {
         let Some((row, later)) = read_row(rest) else {

@@ -2,6 +2,8 @@
 #![tactic(auto)]
 
 mod block;
+mod laws;
 mod parts;
 
 pub use block::{read_block, write_block};
+pub use laws::bytes_tell_blocks_apart;

@@ -7,15 +7,18 @@ use Rattle.gm_table.specs.Sorted.{IsRising}
 use Rattle.gm_block.specs.Parts.{row_bytes, rows_bytes, IsShort}
 use Rattle.gm_block.specs.Block.{pair_of, IsAbove}
 use Rattle.gm_block.proofs.Rising.{rising-none, rising-push, above-from}
-use Rattle.gm_block.proofs.Spellings.{same_row, short-push, rows_bytes-push, next_row, no_rest}
+use Rattle.gm_block.proofs.Spellings.{same_row, short-push, rows_bytes-push, next_row, no_rest, too_few}
 use Rattle.gm_block.proofs.block.read_rows.Goals as goal
+
+pub returns-then-bytes-count : goal.returns-then-bytes-count
+returns-then-bytes-count c = λ rows are. too_few c.args.count rows c.args.bytes.now are c.if-bytes-count.true
 
 pub rows-init : goal.rows-init
 rows-init c = record {
-  count = ap length c.new-rows.ensures.items;
-  rising = subst (λ rows. IsRising (map pair_of rows)) (sym c.new-rows.ensures.items) rising-none;
-  short = subst (AllByRecursion IsShort) (sym c.new-rows.ensures.items) tt;
-  spelled = sym (ap (λ rows. rows_bytes rows ++ c.args.bytes.now) c.new-rows.ensures.items);
+  count = ap length c.in_ok-rows.ensures.items;
+  rising = subst (λ rows. IsRising (map pair_of rows)) (sym c.in_ok-rows.ensures.items) rising-none;
+  short = subst (AllByRecursion IsShort) (sym c.in_ok-rows.ensures.items) tt;
+  spelled = sym (ap (λ rows. rows_bytes rows ++ c.args.bytes.now) c.in_ok-rows.ensures.items);
 }
 
 pub returns-in_default : goal.returns-in_default
