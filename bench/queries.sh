@@ -1,6 +1,7 @@
 #!/bin/sh
 # Times the built program on made scripts over 100,000 features of a type with all its indexes: the
-# puts alone, and the puts with 1,000 queries of each kind behind them. Prints seconds, the greatest
+# puts alone, and the puts with 1,000 queries of each kind behind them, by attribute and by identifier
+# a hundred times as many. Prints seconds, the greatest
 # resident memory by GNU time where it is there, and what was found and examined.
 # Usage: bench/queries.sh [FEATURES [QUERIES]]
 top=$(cd "$(dirname "$0")/.." && pwd)
@@ -14,7 +15,7 @@ made() {
     awk -v features="$features" -v queries="$queries" -v kind="$1" -f "$top/bench/questions.awk"
 }
 
-for kind in puts boxes rows weeks attribute identifier; do
+for kind in puts boxes thousandths rows weeks attribute identifier; do
     made "$kind" >"$work/script"
     printf '%s: ' "$kind"
     if [ -x /usr/bin/time ]; then

@@ -14,8 +14,17 @@ BEGIN {
         if (kind == "boxes") print "count bench " box
         if (kind == "rows") print "query bench " box
         if (kind == "weeks") print "count bench " box " AND dtg DURING 2020-03-01T00:00:00Z/2020-03-08T00:00:00Z"
+    }
+    # Such a question takes so little that it wants a hundred times as many.
+    for (i = 1; i <= 100 * queries; i++) {
         if (kind == "attribute") printf "count bench name = 'n%d'\n", rand() * 1000
         if (kind == "identifier") printf "count bench IN ('f%d')\n", 1 + rand() * features
+    }
+    # Boxes of a thousandth of the world.
+    for (i = 1; kind == "thousandths" && i <= queries; i++) {
+        x = rand() * 348 - 180
+        y = rand() * 174 - 90
+        printf "count bench BBOX(geom,%.7f,%.7f,%.7f,%.7f)\n", x, y, x + 11.3842, y + 5.6921
     }
     # Twenty boxes that hold a tenth of the features each.
     for (i = 1; kind == "tenth" && i <= 20; i++) {

@@ -25,7 +25,7 @@ least() {
 }
 
 printf '%-11s %-27s %s\n' '' '        gm      plain  ratio' '   beyond the puts'
-for kind in puts boxes rows weeks attribute identifier tenth; do
+for kind in puts boxes thousandths rows weeks attribute identifier tenth; do
     awk -v features="$features" -v queries="$queries" -v kind="$kind" -f "$top/bench/questions.awk" >"$work/script"
     : >"$work/gm.times"
     : >"$work/plain.times"

@@ -5,6 +5,7 @@
 mod bounds;
 mod filters;
 mod held;
+mod lines;
 mod words;
 
 use crate::held::Held;
@@ -45,6 +46,7 @@ fn answer(alloc: Global, held: &mut Held, case: &str) -> Result<String, Halt> {
     match word {
         "type" => held.hold_type(alloc, rest),
         "row" => held.hold_row(alloc, rest),
+        "lines" => Ok(lines::answer(alloc, rest.parse::<u64>().unwrap_or(0))?),
         _ => filters::answer(alloc, held, word, rest),
     }
 }

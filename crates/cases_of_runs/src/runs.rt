@@ -36,12 +36,8 @@ pub(crate) fn told(alloc: Global, plan: Plan, scripts: Scripts) -> Result<Vec<u8
 fn told_once(alloc: Global, plan: Plan, scripts: &[Script]) -> Result<Vec<u8>, NoMemory> {
     let mut over_map = Store::new(alloc, MapTable::new(alloc));
     let mut over_blocks = Store::new(alloc, BlockTable::new(alloc));
-    let mut tally = Tally::new();
-    let one = told_over(alloc, plan, scripts, &mut over_map, &mut tally);
-    let other = told_over(alloc, plan, scripts, &mut over_blocks, &mut tally);
-    let _rows = tally.close();
-    let mut told = one?;
-    let other = other?;
+    let mut told = told_over(alloc, plan, scripts, &mut over_map)?;
+    let other = told_over(alloc, plan, scripts, &mut over_blocks)?;
     if told.as_slice() != other.as_slice() {
         told.extend_from_slice(b"over blocks:\n")?;
         told.extend_from_slice(&other)?;
@@ -49,19 +45,22 @@ fn told_once(alloc: Global, plan: Plan, scripts: &[Script]) -> Result<Vec<u8>, N
     Ok(told)
 }
 
-// The scripts run one after the other over one store, until a run isn't done.
-fn told_over<B: Sorted + Sync>(
+// The scripts run one after the other over one store, each with a tally of its own, until a run
+// isn't done.
+fn told_over<B: Sorted<Tally = Tally> + Sync>(
     alloc: Global,
     plan: Plan,
     scripts: &[Script],
     store: &mut Store<B>,
-    tally: &mut B::Tally,
 ) -> Result<Vec<u8>, NoMemory>
     requires kept { HasState store.old.types (B.rows store.old.table) }
 {
     let mut told = Vec::new(alloc);
     for script in scripts {
-        let ended = run_once(alloc, plan, script, plan.failing, store, tally)?;
+        let mut tally = Tally::new();
+        let ended = run_once(alloc, plan, script, plan.failing, store, &mut tally);
+        let _rows = tally.close();
+        let ended = ended?;
         tell(alloc, &mut told, &ended)?;
         if ended.status != Status::Done {
             return Ok(told);
@@ -71,7 +70,7 @@ fn told_over<B: Sorted + Sync>(
 }
 
 // The first script with one call after the other failing, until a run is done: how each ended, and
-// how many lines it had written.
+// how many lines it had written, over both kinds of table.
 fn told_each(
     alloc: Global,
     plan: Plan,
@@ -88,21 +87,49 @@ fn told_each(
         } else {
             Failing::Write(call)
         };
-        let mut store = Store::new(alloc, MapTable::new(alloc));
-        let mut tally = Tally::new();
-        let ended = run_once(alloc, plan, script, failing, &mut store, &mut tally);
-        let _rows = tally.close();
-        let ended = ended?;
-        let lines = ended.written.iter().filter(|byte| **byte == b'\n').count();
-        let bytes = ended.written.len();
-        let status = ended.status.number();
-        let line = format!(in alloc; "status {status} lines {lines} bytes {bytes}\n")?;
-        told.extend_from_slice(line.as_bytes())?;
-        if ended.status == Status::Done {
+        let mut over_map = Store::new(alloc, MapTable::new(alloc));
+        let mut over_blocks = Store::new(alloc, BlockTable::new(alloc));
+        let one = told_of_call(alloc, plan, script, failing, &mut over_map)?;
+        let other = told_of_call(alloc, plan, script, failing, &mut over_blocks)?;
+        told.extend_from_slice(one.line.as_bytes())?;
+        if one.line.as_bytes() != other.line.as_bytes() {
+            told.extend_from_slice(b"over blocks: ")?;
+            told.extend_from_slice(other.line.as_bytes())?;
+        }
+        if one.is_done && other.is_done {
             return Ok(told);
         }
     }
     Ok(told)
+}
+
+// What is told of a run with a call that fails, and whether it was done all the same.
+#[derive(Drop)]
+struct Told {
+    line: String,
+    is_done: bool,
+}
+
+fn told_of_call<B: Sorted<Tally = Tally> + Sync>(
+    alloc: Global,
+    plan: Plan,
+    script: &Script,
+    failing: Failing,
+    store: &mut Store<B>,
+) -> Result<Told, NoMemory>
+    requires kept { HasState store.old.types (B.rows store.old.table) }
+{
+    let mut tally = Tally::new();
+    let ended = run_once(alloc, plan, script, failing, store, &mut tally);
+    let _rows = tally.close();
+    let ended = ended?;
+    let lines = ended.written.iter().filter(|byte| **byte == b'\n').count();
+    let bytes = ended.written.len();
+    let status = ended.status.number();
+    Ok(Told {
+        line: format!(in alloc; "status {status} lines {lines} bytes {bytes}\n")?,
+        is_done: ended.status == Status::Done,
+    })
 }
 
 // One run over the store. Its rows are those by which the tally rises.
