@@ -59,6 +59,12 @@ impl Draw {
         Point { x, y }
     }
 
+    /// A point in the small square or in the larger one, as chance has it.
+    pub fn place(&mut self) -> Point {
+        let side = if self.next(2) == 0 { 9 } else { 900 };
+        self.point(side)
+    }
+
     fn point(&mut self, side: u64) -> Point {
         let x = i32::try_from(self.next(side)).unwrap_or(0);
         let y = i32::try_from(self.next(side)).unwrap_or(0);

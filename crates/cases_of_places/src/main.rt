@@ -49,9 +49,14 @@ fn answer(alloc: Global, case: &str) -> Result<String, NoMemory> {
         "segments_meet" | "in_rings" | "intersects" | "meets_box" => shapes::answer(
             alloc, word, rest,
         ),
-        "prepared" | "prepared_box" | "bands" | "edges_in" | "coast" | "drawn" => {
-            prepared::answer(alloc, word, rest)
-        }
+        "prepared"
+        | "prepared_box"
+        | "prepared_within"
+        | "bands"
+        | "edges_in"
+        | "coast"
+        | "drawn"
+        | "drawn_within" => { prepared::answer(alloc, word, rest) }
         _ => words::text(alloc, "no such case"),
     }
 }

@@ -4,16 +4,18 @@ use crate::{draws, words};
 use gm_base::NoMemory;
 use gm_geom::{Box2, Geometry, Point, check};
 use gm_prepared::{Edge, Prepared};
-use gm_shapes::{intersects, meets_box};
+use gm_shapes::{intersects, meets_box, within};
 use std::alloc::Global;
 
 pub fn answer(alloc: Global, word: &str, rest: &str) -> Result<String, NoMemory> {
     match word {
         "prepared" => meeting(alloc, rest),
         "prepared_box" => in_box(alloc, rest),
+        "prepared_within" => point_within(alloc, rest),
         "bands" => bands(alloc, rest),
         "edges_in" => edges_in(alloc, rest),
         "coast" => coast(alloc, rest),
+        "drawn_within" => drawn_within(alloc, rest),
         _ => drawn(alloc, rest),
     }
 }
@@ -63,6 +65,30 @@ fn met_by_box(alloc: Global, one: &Geometry, area: Box2) -> Result<String, NoMem
             Ok(format!(in alloc; "{met} {prepared}")?)
         }
         Err(_) => words::text(alloc, "not kept"),
+    }
+}
+
+// What `within` tells of a point, and the polygons when they are prepared.
+fn point_within(alloc: Global, rest: &str) -> Result<String, NoMemory> {
+    let (place, text) = parts(rest);
+    match (geometry(alloc, place), geometry(alloc, text)) {
+        (Some(Geometry::Point(p)), Some(area)) => {
+            let inside = within_both(alloc, p, &area)?;
+            Ok(format!(in alloc; "{inside:?}")?)
+        }
+        _ => words::text(alloc, "not kept"),
+    }
+}
+
+// Whether a point is within a geometry, if both ways agree.
+fn within_both(alloc: Global, p: Point, area: &Geometry) -> Result<Option<bool>, NoMemory> {
+    match check(area) {
+        Ok(()) => {
+            let inside = within(p, area);
+            let prepared = Prepared::of(alloc, area)?.has_within(p);
+            Ok((inside == prepared).then_some(inside))
+        }
+        Err(_) => Ok(None),
     }
 }
 
@@ -133,6 +159,26 @@ fn drawn(alloc: Global, rest: &str) -> Result<String, NoMemory> {
         }
     }
     Ok(format!(in alloc; "{met} meet, {apart} do not, {other} disagree")?)
+}
+
+// Drawn geometries, each with a drawn point: how many have it within them.
+fn drawn_within(alloc: Global, rest: &str) -> Result<String, NoMemory> {
+    let (seed, count) = words::split(rest);
+    let (Ok(seed), Ok(count)) = (seed.parse::<u64>(), count.parse::<u32>()) else {
+        return words::text(alloc, "no count");
+    };
+    let mut draw = draws::Draw { state: seed };
+    let (mut inside, mut outside, mut other) = (0u64, 0u64, 0u64);
+    for _ in 0..count {
+        let area = draw.geometry(alloc)?;
+        let p = draw.place();
+        match within_both(alloc, p, &area)? {
+            Some(true) => inside = inside.saturating_add(1),
+            Some(false) => outside = outside.saturating_add(1),
+            None => other = other.saturating_add(1),
+        }
+    }
+    Ok(format!(in alloc; "{inside} within, {outside} not, {other} disagree")?)
 }
 
 // Points before and behind a coast of many points, by `intersects` and by the prepared coast.

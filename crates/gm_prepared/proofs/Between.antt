@@ -1,6 +1,6 @@
 -- Which bands an edge between two heights is in.
 use Rattle.std.proofs.Common.{◌≡◌, ℕ, ◌+◌, ◌<◌, ◌≤◌, ℤ, ◌≤ℤ◌, ◌<ℤ◌, Bool, true, false, ◌||◌, List, [], ◌∷◌, length, get_or, Some, inl, inr, refl, sym, ap, ◌∙◌, arith}
-use Rattle.std.specs.Prelude.{int_le, int_lt, unwrap_or}
+use Rattle.std.specs.Prelude.{int_le, int_lt}
 use Rattle.std.specs.Int.{int_min, int_max}
 use Rattle.std.specs.List.{list_any, AllByRecursion}
 use Rattle.std.proofs.lemmas.Bool.{and_parts, or_cases, or_from, cases_lt, both_ways, false_from_ne_true}
@@ -17,7 +17,7 @@ use Rattle.gm_shapes.specs.Edge.{lone_edge}
 use Rattle.gm_shapes.specs.Polygon.{crosses_up, crosses}
 use Rattle.gm_prepared.specs.declared.edge.Edge.{Edge}
 use Rattle.gm_prepared.specs.Edge.{segment_of, numbered_edges}
-use Rattle.gm_prepared.specs.Band.{bounds_of, no_box, count_of, meets_band, band_at}
+use Rattle.gm_prepared.specs.Band.{count_of, meets_band, band_at}
 use Rattle.gm_prepared.specs.Placing.{IsFlatIn}
 use Rattle.gm_prepared.specs.Prepared.{IsPrepared, IsBetween}
 use Rattle.gm_prepared.proofs.Heights.{at_below, at_rises, meets_at}

@@ -3,7 +3,7 @@ use Rattle.std.proofs.Common.{◌≡◌, ℕ, suc, ◌+◌, ◌<◌, ◌≤◌, 
 use mathlib.Core.Bool.{beq}
 use Rattle.std.specs.Prelude.{filter}
 use Rattle.std.specs.List.{list_any, count_by}
-use Rattle.std.proofs.lemmas.Bool.{both_ways, ne_eqb, or_left, eq-eqb}
+use Rattle.std.proofs.lemmas.Bool.{both_ways, ne_eqb, eq-eqb}
 use Rattle.std.proofs.lemmas.List.{drop_more}
 use Rattle.std.proofs.lemmas.List.Elements.{filter-append}
 use Rattle.gm_geom.specs.declared.point.Point.{Point}
@@ -35,18 +35,18 @@ pub record KeepsNear (p : Point) (keep : Edge → Bool) : Type 0 where
   pub touched : (e : Edge) → do_meet (lone_edge p) (segment_of e) ≡ true → keep e ≡ true
   pub crossed : (e : Edge) → crosses p (segment_of e) ≡ true → keep e ≡ true
 
-differs_false : (b : Bool) → differs b false ≡ b
+pub differs_false : (b : Bool) → differs b false ≡ b
 differs_false true = refl
 differs_false false = refl
 
-only_true : (a b : Bool) → b ≡ false → (a ≡ true → b ≡ true) → a ≡ false
+pub only_true : (a b : Bool) → b ≡ false → (a ≡ true → b ≡ true) → a ≡ false
 only_true true b e f = absurd (both_ways b e (f refl))
 only_true false b e f = refl
 
-abbrev on_some : Point → List Segment → Bool
+abbrev pub on_some : Point → List Segment → Bool
 on_some p segments = list_any (do_meet (lone_edge p)) segments
 
-abbrev crosses_oddly : Point → List Segment → Bool
+abbrev pub crosses_oddly : Point → List Segment → Bool
 crosses_oddly p segments = is_odd (count_by (crosses p) segments)
 
 kept_same : (t odd c any o r : Bool) → ((t || (odd && not true)) || ((any || differs (differs odd c) o) || r)) ≡ (((t || any) || differs odd (differs c o)) || r)
@@ -110,16 +110,16 @@ other_area p keep near area n rest r other base before (s ∷ segments) odd =
     other_kept p keep near area n rest r s segments odd other (keep (tagged_edge (Some n) s)) refl (same_area p keep near n rest r base segments) (other_area p keep near area n rest r other base before segments odd)
 
 -- no polygon from n on has the number of the area
-record IsFresh (area : Option ℕ) (n : ℕ) : Type 0 where
-  fresh : (m : ℕ) → n ≤ m → is_one_area area (Some m) ≡ false
+pub record IsFresh (area : Option ℕ) (n : ℕ) : Type 0 where
+  pub fresh : (m : ℕ) → n ≤ m → is_one_area area (Some m) ≡ false
 
-fresh_next : (n : ℕ) → IsFresh (Some n) (suc n)
+pub fresh_next : (n : ℕ) → IsFresh (Some n) (suc n)
 fresh_next n = record { fresh = λ m h. ne_eqb n m (λ e. absurd (omega (arith, e, h))) }
 
-fresh_later : (area : Option ℕ) (n : ℕ) → IsFresh area n → IsFresh area (suc n)
+pub fresh_later : (area : Option ℕ) (n : ℕ) → IsFresh area n → IsFresh area (suc n)
 fresh_later area n new = record { fresh = λ m h. new.fresh m (omega (arith, h)) }
 
-or_false : (b : Bool) → b ≡ (b || false)
+pub or_false : (b : Bool) → b ≡ (b || false)
 or_false true = refl
 or_false false = refl
 

@@ -4,6 +4,7 @@ pub mod Lists
 pub mod Numbered
 pub mod Numbers
 pub mod Held
+pub mod Inside
 pub mod Ends
 pub mod Between
 pub mod Meets

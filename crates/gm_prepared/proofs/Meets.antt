@@ -17,15 +17,17 @@ use Rattle.gm_geom.specs.Extent.{IsInBox, HoldsAll, extent_of}
 use Rattle.gm_shapes.specs.Segment.{lone_box, do_overlap, do_meet}
 use Rattle.gm_shapes.specs.Edge.{lone_edge, edges_between, edges_between_all, meets_edge_of}
 use Rattle.gm_shapes.specs.Polygon.{is_on_edge, is_around, is_in_polygon}
-use Rattle.gm_shapes.specs.Meeting.{is_in_any, has_vertex_in, do_intersect}
+use Rattle.gm_shapes.specs.Meeting.{is_in_any, is_within, has_vertex_in, do_intersect}
 use Rattle.gm_prepared.specs.declared.edge.Edge.{Edge}
 use Rattle.gm_prepared.specs.Edge.{area_edges, numbered_edges}
 use Rattle.gm_prepared.specs.Band.{meets_band, band_at}
 use Rattle.gm_prepared.specs.Area.{is_held}
+use Rattle.gm_prepared.specs.Standing.{no_edges, has_inside}
 use Rattle.gm_prepared.specs.Placing.{IsFlatIn, AreBands}
 use Rattle.gm_prepared.specs.Prepared.{IsPrepared, IsBetween}
 use Rattle.gm_prepared.proofs.Between.{near_band, along, HasHeight, height_in}
 use Rattle.gm_prepared.proofs.Held.{held_is}
+use Rattle.gm_prepared.proofs.Inside.{within_is}
 
 -- what is kept of a geometry and its copy
 pub prepared_of : (geometry same : Geometry) (b : Box2) (edges : List Edge) (lists : List (List Edge)) → same ≡ geometry → edges ≡ numbered_edges geometry → fault_of geometry ≡ None → extent_of (points_of geometry) ≡ Some b → HoldsAll b (points_of geometry) → AllByRecursion (IsFlatIn b) (numbered_edges geometry) → AreBands b edges lists → IsPrepared same b lists
@@ -54,9 +56,9 @@ overlaps_at b p at =
     and_from (int_le p.x b.high.x && int_le p.y b.high.y) (int_le b.low.x p.x && int_le b.low.y p.y)
     (and_from (int_le p.x b.high.x) (int_le p.y b.high.y) right above) (and_from (int_le b.low.x p.x) (int_le b.low.y p.y) left below)
 
--- a point out of the bounds is in no polygon
-pub apart_point : (geometry : Geometry) (b : Box2) (p : Point) (seen : Bool) → (is_in_any (areas_of geometry) p ≡ true → IsInBox b p) → seen ≡ do_overlap (lone_box p) b → seen ≡ false → seen ≡ is_in_any (areas_of geometry) p
-apart_point geometry b p seen inside = fails_with (do_overlap (lone_box p) b) (is_in_any (areas_of geometry) p) seen (λ e. overlaps_at b p (inside e))
+-- a point out of the bounds is in no polygon, and so within none
+pub apart_point : (b : Box2) (p : Point) (all seen : Bool) → (all ≡ true → IsInBox b p) → seen ≡ do_overlap (lone_box p) b → seen ≡ false → seen ≡ all
+apart_point b p all seen inside = fails_with (do_overlap (lone_box p) b) all seen (λ e. overlaps_at b p (inside e))
 
 -- a geometry with polygons has no other edges
 area_only : (geometry : Geometry) → not (is_empty (areas_of geometry)) ≡ true → numbered_edges geometry ≡ area_edges 0 (areas_of geometry)
@@ -67,15 +69,27 @@ area_only (geo.ManyPoints points) some = absurd (cc)
 area_only (geo.ManyLines lines) some = absurd (cc)
 area_only (geo.ManyAreas areas) some = refl
 
--- the band that has the height of a point tells whether a polygon holds it
+-- the edges of the band that has the height of a point, where the geometry has polygons
+band_edges : (geometry : Geometry) (b : Box2) (lists : List (List Edge)) (p : Point) (k : ℕ) (band : List Edge) → IsPrepared geometry b lists → not (is_empty (areas_of geometry)) ≡ true → k ≡ band_at b p.y → k < length lists → band ≡ get_or lists k band → band ≡ filter (meets_band b (band_at b p.y)) (area_edges 0 (areas_of geometry))
+band_edges geometry b lists p k band kept some is_k below read =
+    get_or_read lists k band below read [] ∙ kept.bands.each k below
+    ∙ ap (λ j. filter (meets_band b j) (numbered_edges geometry)) is_k
+    ∙ ap (filter (meets_band b (band_at b p.y))) (area_only geometry some)
+
+-- that band tells whether a polygon holds the point, and whether the point is within one
 pub held_in_band : (geometry : Geometry) (b : Box2) (lists : List (List Edge)) (p : Point) (k : ℕ) (band : List Edge) (inside seen : Bool) → IsPrepared geometry b lists → not (is_empty (areas_of geometry)) ≡ true → inside ≡ do_overlap (lone_box p) b → inside ≡ true → k ≡ band_at b p.y → k < length lists → band ≡ get_or lists k band → seen ≡ is_held p None false band → seen ≡ is_in_any (areas_of geometry) p
 held_in_band geometry b lists p k band inside seen kept some is_inside at is_k below read e =
     let height : HasHeight b.low.y b.high.y p.y = height_in p b (sym is_inside ∙ at) in
     e
-    ∙ ap (is_held p None false) (get_or_read lists k band below read [] ∙ kept.bands.each k below)
-    ∙ ap (λ j. is_held p None false (filter (meets_band b j) (numbered_edges geometry))) is_k
-    ∙ ap (λ edges. is_held p None false (filter (meets_band b (band_at b p.y)) edges)) (area_only geometry some)
+    ∙ ap (is_held p None false) (band_edges geometry b lists p k band kept some is_k below read)
     ∙ held_is p (meets_band b (band_at b p.y)) (near_band b p height.from) (areas_of geometry)
+
+pub within_in_band : (geometry : Geometry) (b : Box2) (lists : List (List Edge)) (p : Point) (k : ℕ) (band : List Edge) (inside seen : Bool) → IsPrepared geometry b lists → not (is_empty (areas_of geometry)) ≡ true → inside ≡ do_overlap (lone_box p) b → inside ≡ true → k ≡ band_at b p.y → k < length lists → band ≡ get_or lists k band → seen ≡ has_inside p no_edges band → seen ≡ is_within p geometry
+within_in_band geometry b lists p k band inside seen kept some is_inside at is_k below read e =
+    let height : HasHeight b.low.y b.high.y p.y = height_in p b (sym is_inside ∙ at) in
+    e
+    ∙ ap (has_inside p no_edges) (band_edges geometry b lists p k band kept some is_k below read)
+    ∙ within_is p (meets_band b (band_at b p.y)) (near_band b p height.from) (areas_of geometry)
 
 pub between_same : (low high l h : ℤ) (e : Edge) → l ≡ low → h ≡ high → IsBetween low high e → IsBetween l h e
 between_same low high l h e is_low is_high at = record {

@@ -34,7 +34,7 @@ fn is_settled(p: Point, area: Option<u32>, odd: bool, edge: &Edge) -> bool
     segments_meet(p, p, edge.a, edge.b) || odd && !is_one_area(area, edge.area)
 }
 
-fn is_one_area(one: Option<u32>, other: Option<u32>) -> bool
+pub(crate) fn is_one_area(one: Option<u32>, other: Option<u32>) -> bool
     ensures { result ≡ spec.is_one_area one other }
 {
     match (one, other) {

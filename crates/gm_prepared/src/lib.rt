@@ -9,6 +9,7 @@ mod edge_test;
 mod laws;
 mod placing;
 mod prepared;
+mod standing;
 
 pub use band::BAND_LIMIT;
 pub use edge::{Edge, EdgeList};

@@ -9,7 +9,7 @@ ghost use Rattle.gm_shapes.specs.Segment as spec;
 ghost use Rattle.gm_shapes.specs.Segment.{lone_box};
 ghost use Rattle.gm_shapes.specs.Edge.{meets_edge_of};
 ghost use Rattle.gm_shapes.specs.Meeting as meeting;
-ghost use Rattle.gm_shapes.specs.Meeting.{do_intersect, is_in_any, box_area};
+ghost use Rattle.gm_shapes.specs.Meeting.{do_intersect, is_in_any, is_within, box_area};
 ghost use Rattle.gm_prepared.specs.declared.edge.Edge.{Edge};
 ghost use Rattle.gm_prepared.specs.Edge.{numbered_edges};
 ghost use Rattle.gm_prepared.specs.Band.{bounds_of, count_of, edges_in_band};
@@ -22,13 +22,14 @@ use crate::copy::copy;
 use crate::edge::numbered_edges;
 use crate::edge_test::{EdgeTest, Meets, Reaches, any_passes};
 use crate::placing::placed;
+use crate::standing::has_inside;
 use gm_base::NoMemory;
 use gm_geom::{Box2, Geometry, Point, bounds};
 use gm_shapes::{
     Bounded, ClosedBox, Region, Segment, Shape, any_edge, any_edge_between, any_point, any_vertex,
     box_of, do_overlap, has_area, holds_each_edge, is_in_box, lies_in_bounds_where_in_area,
-    meeting_is_symmetric, overlaps_a_box_it_meets, overlaps_where_meeting,
-    overlaps_where_meeting_an_edge,
+    lies_in_bounds_where_within, meeting_is_symmetric, overlaps_a_box_it_meets,
+    overlaps_where_meeting, overlaps_where_meeting_an_edge,
 };
 use std::alloc::Global;
 use std::marker::Model;
@@ -112,6 +113,14 @@ impl Prepared {
         }
     }
 
+    /// Whether a point is in one of the polygons and on none of its edges, as `within` tells. It
+    /// takes no memory.
+    pub fn has_within(&self, p: Point) -> bool
+        ensures { result ≡ is_within p self.now }
+    {
+        has_area(&self.geometry) && self.has_within_in_band(p)
+    }
+
     /// Whether a closed box meets the geometry, as `meets_box` tells. It takes no memory.
     pub fn meets_box(&self, area: Box2) -> bool
         requires across { area.low.x ≤ℤ area.high.x }
@@ -162,6 +171,14 @@ impl Prepared {
     {
         lies_in_bounds_where_in_area();
         is_in_box(p, self.bounds) && is_held(p, self.lists[band_at(self.bounds, p.y)].as_slice())
+    }
+
+    fn has_within_in_band(&self, p: Point) -> bool
+        requires { not (is_empty (areas_of self.now)) ≡ true }
+        ensures { result ≡ is_within p self.now }
+    {
+        lies_in_bounds_where_within();
+        is_in_box(p, self.bounds) && has_inside(p, self.lists[band_at(self.bounds, p.y)].as_slice())
     }
 
     // Whether a vertex lies in the region, which lies between the heights of the box.

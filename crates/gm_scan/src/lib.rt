@@ -6,7 +6,6 @@ mod found;
 mod found_rows;
 mod kept;
 mod laws;
-mod polygons;
 mod scan;
 mod target;
 mod test;

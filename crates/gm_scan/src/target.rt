@@ -1,4 +1,4 @@
-// Geometries that values are to meet.
+// Geometries that values are to meet, or to lie within.
 ghost use Rattle.std.specs.Prelude.{◌≡◌, true, None, IfOk};
 ghost use Rattle.gm_geom.specs.declared.geometry.Geometry.{Geometry as AnyGeometry};
 ghost use Rattle.gm_geom.specs.declared.geometry.Geometry.TheVariants as geo;
@@ -75,6 +75,17 @@ impl Target {
             StoredValue::Point(point) => Ok(!self.meets_point(point)),
             StoredValue::Geometry(geometry) => Ok(!self.meets_stored(alloc, &geometry)?),
             _ => Ok(false),
+        }
+    }
+
+    /// Whether it is a point that lies in one of the polygons and on none of its edges.
+    pub(crate) fn has_within_at(&self, stored: &Stored<'_>, at: u16) -> bool
+        ensures { (f : Feature) → IsStored stored.now f
+            → result ≡ truth.is_within (value_at f at) self.now.prepared }
+    {
+        match stored.value(at) {
+            StoredValue::Point(point) => self.prepared.has_within(point),
+            _ => false,
         }
     }
 

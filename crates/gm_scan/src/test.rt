@@ -7,7 +7,6 @@ ghost use Rattle.gm_filter.specs.Tree.{tree, trees_of};
 ghost use Rattle.gm_filter.specs.Truth.{is_true, are_all_true, is_any_true};
 ghost use Rattle.gm_scan.specs.Test.{tree_of};
 
-use crate::polygons::Polygons;
 use crate::target::Target;
 use gm_base::NoMemory;
 use gm_feature::Stored;
@@ -32,7 +31,7 @@ pub(crate) enum Test<'a> {
 
     Disjoint(u16, Target),
 
-    Within(u16, Polygons<'a>),
+    Within(u16, Target),
 }
 
 /// The test of a filter that suits the type.
@@ -53,7 +52,7 @@ pub(crate) fn test_of<'a>(
             Ok(Test::Intersects(*at, Target::of(alloc, geometry)?))
         }
         Filter::Disjoint(at, geometry) => { Ok(Test::Disjoint(*at, Target::of(alloc, geometry)?)) }
-        Filter::Within(at, area) => Ok(Test::Within(*at, Polygons::of(alloc, area)?)),
+        Filter::Within(at, area) => Ok(Test::Within(*at, Target::of(alloc, area)?)),
         _ => Ok(Test::Plain(filter)),
     }
 }
@@ -90,7 +89,7 @@ pub(crate) fn passes(alloc: Global, test: &Test<'_>, stored: &Stored<'_>) -> Res
         Test::Or(members) => pass_any(alloc, members, stored),
         Test::Intersects(at, target) => target.meets_at(alloc, stored, *at),
         Test::Disjoint(at, target) => target.is_apart_at(alloc, stored, *at),
-        Test::Within(at, polygons) => Ok(polygons.has_inside_at(stored, *at)),
+        Test::Within(at, target) => Ok(target.has_within_at(stored, *at)),
     }
 }
 

@@ -22,7 +22,7 @@ returns-then-is_in_box c =
 
 pub returns-else-is_in_box : goal.returns-else-is_in_box
 returns-else-is_in_box c =
-    apart_point c.self.inside.geometry c.self.inside.bounds c.args.p c.is_in_box.result
+    apart_point c.self.inside.bounds c.args.p (is_in_any (areas_of c.self.inside.geometry) c.args.p) c.is_in_box.result
     (c.lies_in_bounds_where_in_area.ensures c.args.p c.self.inside.geometry c.self.inside.bounds c.self.invariant.kept c.self.invariant.held)
     c.is_in_box.ensures c.if-is_in_box.false
     ∙ ap (λ g. is_in_any (areas_of g) c.args.p) c.self.view_is
