@@ -5,4 +5,5 @@ pub mod Held
 pub mod Kept
 pub mod Ranges
 pub mod Test
+pub mod Texts
 pub mod Trial

@@ -4,12 +4,14 @@
 mod counted;
 mod found;
 mod found_rows;
+mod identifiers;
 mod kept;
 mod laws;
 mod polygons;
 mod scan;
 mod target;
 mod test;
+mod texts;
 mod trial;
 
 pub use found_rows::FoundRows;
