@@ -3,6 +3,7 @@ pub mod Found
 pub mod FoundRows
 pub mod Held
 pub mod Kept
+pub mod Literals
 pub mod Ranges
 pub mod Test
 pub mod Texts

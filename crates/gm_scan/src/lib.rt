@@ -7,6 +7,7 @@ mod found_rows;
 mod identifiers;
 mod kept;
 mod laws;
+mod literals;
 mod polygons;
 mod scan;
 mod target;

@@ -8,6 +8,7 @@ ghost use Rattle.gm_filter.specs.Truth.{is_true, are_all_true, is_any_true};
 ghost use Rattle.gm_scan.specs.Test.{tree_of};
 
 use crate::identifiers::Identifiers;
+use crate::literals::Literals;
 use crate::polygons::Polygons;
 use crate::target::Target;
 use gm_base::NoMemory;
@@ -17,7 +18,7 @@ use gm_types::FeatureType;
 use std::alloc::Global;
 
 /// A filter that is made once and tried on many features: each geometry that a value is to meet is
-/// prepared, and each list of identifiers sorted. Contracts see the tree of the filter.
+/// prepared, and each list sorted. Contracts see the tree of the filter.
 #[derive(Drop)]
 pub(crate) enum Test<'a> {
     /// A filter without such a geometry or list.
@@ -28,6 +29,8 @@ pub(crate) enum Test<'a> {
     And(Vec<Test<'a>>),
 
     Or(Vec<Test<'a>>),
+
+    OneOf(u16, Literals<'a>),
 
     Ids(Identifiers<'a>),
 
@@ -52,6 +55,9 @@ pub(crate) fn test_of<'a>(
         Filter::Not(inner) => Ok(Test::Not(Box::new(alloc, test_of(alloc, of, inner)?)?)),
         Filter::And(members) => Ok(Test::And(tests_of(alloc, of, members)?)),
         Filter::Or(members) => Ok(Test::Or(tests_of(alloc, of, members)?)),
+        Filter::OneOf(at, literals) => {
+            Ok(Test::OneOf(*at, Literals::of(alloc, literals.as_slice())?))
+        }
         Filter::Ids(texts) => Ok(Test::Ids(Identifiers::of(alloc, texts.as_slice())?)),
         Filter::Intersects(at, geometry) => {
             Ok(Test::Intersects(*at, Target::of(alloc, geometry)?))
@@ -92,6 +98,7 @@ pub(crate) fn passes(alloc: Global, test: &Test<'_>, stored: &Stored<'_>) -> Res
         Test::Not(inner) => Ok(!passes(alloc, inner, stored)?),
         Test::And(members) => pass_all(alloc, members, stored),
         Test::Or(members) => pass_any(alloc, members, stored),
+        Test::OneOf(at, literals) => Ok(literals.have_value_at(stored, *at)),
         Test::Ids(identifiers) => Ok(identifiers.have_id_of(stored)),
         Test::Intersects(at, target) => target.meets_at(alloc, stored, *at),
         Test::Disjoint(at, target) => target.is_apart_at(alloc, stored, *at),
