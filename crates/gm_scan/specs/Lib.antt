@@ -3,6 +3,8 @@ pub mod Found
 pub mod FoundRows
 pub mod Held
 pub mod Kept
+pub mod Literals
 pub mod Ranges
 pub mod Test
+pub mod Texts
 pub mod Trial

@@ -4,11 +4,14 @@
 mod counted;
 mod found;
 mod found_rows;
+mod identifiers;
 mod kept;
 mod laws;
+mod literals;
 mod scan;
 mod target;
 mod test;
+mod texts;
 mod trial;
 
 pub use found_rows::FoundRows;

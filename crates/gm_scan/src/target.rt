@@ -44,7 +44,7 @@ impl Target {
         })
     }
 
-    /// Whether the value of an attribute is a geometry that has a point in common with this one.
+    /// Whether the value of an attribute is a geometry that meets this one.
     pub(crate) fn meets_at(
         &self,
         alloc: Global,
@@ -61,7 +61,7 @@ impl Target {
         }
     }
 
-    /// Whether it is a geometry that has none.
+    /// Whether it is a geometry that does not.
     pub(crate) fn is_apart_at(
         &self,
         alloc: Global,

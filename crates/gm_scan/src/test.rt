@@ -1,4 +1,4 @@
-// A filter whose geometries are prepared.
+// A filter whose geometries are prepared and whose lists are sorted.
 ghost use Rattle.std.specs.Prelude.{◌≡◌, true, IfOk, map};
 ghost use Rattle.gm_feature.specs.declared.feature.Feature.{Feature};
 ghost use Rattle.gm_feature.specs.Stored.{IsStored};
@@ -7,6 +7,8 @@ ghost use Rattle.gm_filter.specs.Tree.{tree, trees_of};
 ghost use Rattle.gm_filter.specs.Truth.{is_true, are_all_true, is_any_true};
 ghost use Rattle.gm_scan.specs.Test.{tree_of};
 
+use crate::identifiers::Identifiers;
+use crate::literals::Literals;
 use crate::target::Target;
 use gm_base::NoMemory;
 use gm_feature::Stored;
@@ -15,10 +17,10 @@ use gm_types::FeatureType;
 use std::alloc::Global;
 
 /// A filter that is made once and tried on many features: each geometry that a value is to meet is
-/// prepared. Contracts see the tree of the filter.
+/// prepared, and each list sorted. Contracts see the tree of the filter.
 #[derive(Drop)]
 pub(crate) enum Test<'a> {
-    /// A filter without such a geometry.
+    /// A filter without such a geometry or list.
     Plain(&'a Filter),
 
     Not(Box<Test<'a>>),
@@ -26,6 +28,10 @@ pub(crate) enum Test<'a> {
     And(Vec<Test<'a>>),
 
     Or(Vec<Test<'a>>),
+
+    OneOf(u16, Literals<'a>),
+
+    Ids(Identifiers<'a>),
 
     Intersects(u16, Target),
 
@@ -48,6 +54,10 @@ pub(crate) fn test_of<'a>(
         Filter::Not(inner) => Ok(Test::Not(Box::new(alloc, test_of(alloc, of, inner)?)?)),
         Filter::And(members) => Ok(Test::And(tests_of(alloc, of, members)?)),
         Filter::Or(members) => Ok(Test::Or(tests_of(alloc, of, members)?)),
+        Filter::OneOf(at, literals) => {
+            Ok(Test::OneOf(*at, Literals::of(alloc, literals.as_slice())?))
+        }
+        Filter::Ids(texts) => Ok(Test::Ids(Identifiers::of(alloc, texts.as_slice())?)),
         Filter::Intersects(at, geometry) => {
             Ok(Test::Intersects(*at, Target::of(alloc, geometry)?))
         }
@@ -87,6 +97,8 @@ pub(crate) fn passes(alloc: Global, test: &Test<'_>, stored: &Stored<'_>) -> Res
         Test::Not(inner) => Ok(!passes(alloc, inner, stored)?),
         Test::And(members) => pass_all(alloc, members, stored),
         Test::Or(members) => pass_any(alloc, members, stored),
+        Test::OneOf(at, literals) => Ok(literals.have_value_at(stored, *at)),
+        Test::Ids(identifiers) => Ok(identifiers.have_id_of(stored)),
         Test::Intersects(at, target) => target.meets_at(alloc, stored, *at),
         Test::Disjoint(at, target) => target.is_apart_at(alloc, stored, *at),
         Test::Within(at, target) => Ok(target.has_within_at(stored, *at)),
