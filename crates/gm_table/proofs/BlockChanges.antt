@@ -2,11 +2,11 @@
 use Rattle.std.proofs.Common.{◌≡◌, List, [], ◌∷◌, ◌++◌, append_assoc, ℕ, zero, suc, ◌+◌, ◌-◌, ◌<◌, ◌≤◌, length, take, drop, get_or, refl, sym, ap, subst, ◌∙◌, arith, length-append}
 use Rattle.std.proofs.Math.ListN.{set}
 use Rattle.std.proofs.lemmas.List.{get_or_default}
-use Rattle.std.specs.List.{AllByRecursion, insert, remove}
+use Rattle.std.specs.List.{insert, remove}
 use Rattle.std.specs.Prelude.{Result, Ok, Err, OnOk, OnErr}
 use Rattle.gm_table.specs.declared.row.Row.{Row}
 use Rattle.gm_table.specs.declared.blocks.block.Block.{Block}
-use Rattle.gm_table.specs.Blocks.{pair_of, pairs_of, rows_of, lists_of, IsBlock, IsPlace, IsRowAt, HasRoom, IsCut, rows_at, rows_until}
+use Rattle.gm_table.specs.Blocks.{pair_of, pairs_of, rows_of, lists_of, IsPlace, IsRowAt, HasRoom, IsCut, rows_at, rows_until}
 use Rattle.gm_table.proofs.BlockWalks.{append_none, rows_at_get, none_behind}
 
 -- ---- lists in two parts

@@ -63,22 +63,26 @@ impl BlockTable {
         &self.list[i].rows
     }
 
-    /// Puts a row in, and answers the bytes that its key had.
-    pub(crate) fn put(&mut self, alloc: Global, row: Row) -> Result<Option<Bytes>, NoMemory>
+    /// Puts a copy of a row in, and answers the bytes that its key had.
+    pub(crate) fn put(&mut self, alloc: Global, put: &Row) -> Result<Option<Bytes>, NoMemory>
         ensures ok { OnOk result ((key : List ℕ)
             → at_key key (rows_of (blocks_of self.new)) ≡ put_at
-            key (row ∷ []) (at_key key (rows_of (blocks_of self.old)))) }
+            key (put.now ∷ []) (at_key key (rows_of (blocks_of self.old)))) }
         ensures had { IfOk result (λ old. old
-            ≡ at_key row.key (rows_of (blocks_of self.old))) }
+            ≡ at_key put.now.key (rows_of (blocks_of self.old))) }
         ensures err { OnErr result (rows_of (blocks_of self.new)
             ≡ rows_of (blocks_of self.old)) }
     {
-        match find_row(&self.list, &row.key) {
-            Ok(at) => Ok(Some(replace_row(alloc, &mut self.list, at, row.bytes))),
+        match find_row(&self.list, &put.key) {
+            Ok(at) => {
+                let bytes = put.bytes.copy(alloc)?;
+                Ok(Some(replace_row(alloc, &mut self.list, at, bytes)))
+            }
             Err(at) => {
                 if self.count == u64::MAX {
                     return Err(NoMemory);
                 }
+                let row = put.copy(alloc)?;
                 insert_row(alloc, &mut self.list, at, row)?;
                 self.count += 1;
                 Ok(None)

@@ -2,7 +2,7 @@ use Rattle.std.proofs.Common.{◌≡◌, true, ap, ◌∙◌, arith}
 use Rattle.std.specs.Ordering.{nat_cmp, is_le}
 use Rattle.std.specs.Cmp.Lexicographic.{slice_cmp}
 use Rattle.std.proofs.lemmas.Grind.{common_steps}
-use Rattle.gm_table.specs.Blocks.{lists_of, rows_of, rows_at}
+use Rattle.gm_table.specs.Blocks.{lists_of, rows_of}
 use Rattle.gm_table.specs.Cursor.{rows_after}
 use Rattle.gm_table.proofs.Places.{after-is}
 use Rattle.gm_table.proofs.blocks.cursor.BlockCursor.reach.Goals as goal
