@@ -1,13 +1,13 @@
 // Spans of keys handed out from blocks, each from where the last one ended.
-ghost use Rattle.std.specs.Prelude.{◌≡◌, ◌≤◌, [], ◌∷◌, ℕ, All, slice_range, OnOk, IfOk};
-ghost use Rattle.std.specs.Prelude.{IfErr, IfSome, MatchOption, length, true};
+ghost use Rattle.std.specs.Prelude.{◌≡◌, ◌≤◌, ◌<◌, [], ◌∷◌, ℕ, All, slice_range, OnOk, IfOk};
+ghost use Rattle.std.specs.Prelude.{IfErr, IfSome, MatchOption, length, drop, true};
 ghost use Rattle.std.specs.List.{AllByRecursion};
 ghost use Rattle.std.specs.Ordering.{nat_cmp, is_le};
 ghost use Rattle.std.specs.Cmp.Lexicographic.{slice_cmp};
 ghost use Rattle.gm_base.specs.Counter.{capped_sum};
 ghost use Rattle.gm_base.specs.Tally.{tally_number};
 ghost use Rattle.gm_table.specs.Blocks.{IsAtKey, IsBlock, IsPlace, lists_of};
-ghost use Rattle.gm_table.specs.Blocks.{pair_of, rows_of, rows_at};
+ghost use Rattle.gm_table.specs.Blocks.{pair_of, pairs_of, rows_of, rows_at};
 ghost use Rattle.gm_table.specs.Cursor.{rows_below, rows_after};
 ghost use Rattle.gm_table.specs.Sorted.{IsRising, Rows, between};
 ghost use Rattle.gm_table.specs.Spans.{rows_in};
@@ -141,6 +141,33 @@ impl<'a> BlockCursor<'a> {
     }
 }
 
+/// Hands out the rows between two ends.
+pub(crate) fn scan_range<V: Visit>(
+    alloc: Global,
+    blocks: &[Block],
+    low: &End<'_>,
+    high: &End<'_>,
+    visit: &mut V,
+    tally: &mut Tally,
+) -> Result<(), NoMemory>
+    requires each { AllByRecursion IsBlock blocks.now }
+    requires rising { IsRising (rows_of (lists_of blocks.now)) }
+    requires admits { All (λ row. V.admits visit.old row.0 row.1)
+        (between low.now high.now (rows_of (lists_of blocks.now))) }
+    ensures handed { OnOk result (Handed V.takes visit.old
+        (between low.now high.now (rows_of (lists_of blocks.now))) visit.new) }
+    ensures tally { OnOk result (tally_number tally.new ≡ capped_sum (tally_number tally.old)
+        (length (between low.now high.now (rows_of (lists_of blocks.now))))) }
+    ensures stopped { IfErr result (λ fault. (handed : ℕ)
+        × Stops V.takes visit.old
+        (between low.now high.now (rows_of (lists_of blocks.now))) fault visit.new handed
+        × (tally_number tally.new ≡ capped_sum (tally_number tally.old) handed)) }
+{
+    let place = place_from(blocks, low);
+    let _end = hand_out_until(alloc, blocks, place, high, visit, tally)?;
+    Ok(())
+}
+
 /// Hands out the rows of each span in this part of the list in turn, each from where the last one
 /// ended.
 pub(crate) fn scan_part<V: Visit>(
@@ -188,7 +215,8 @@ fn place_from(blocks: &[Block], low: &End<'_>) -> Place
     place_of(blocks, low)
 }
 
-// The place of a key, where that is before a row of the place's block, from the place on.
+// The place of a key that is not before the given place, if it is in the same block: where a row of
+// that block, from the place on, is not before the key.
 fn step_to(blocks: &[Block], at: Place, key: &End<'_>) -> Option<Place>
     requires rising { IsRising (rows_of (lists_of blocks.now)) }
     requires place { IsPlace at.block at.row blocks.now }
@@ -200,14 +228,29 @@ fn step_to(blocks: &[Block], at: Place, key: &End<'_>) -> Option<Place>
         return None;
     }
     let rest = rest_of(blocks[at.block].rows.as_slice(), at.row);
-    let count = place_in(rest, key);
-    if count >= rest.len() {
+    match place_inside(rest, key) {
+        Some(count) => Some(Place {
+            block: at.block,
+            row: at.row + count,
+        }),
+        None => None,
+    }
+}
+
+// How many of the rows are before the key, if the last of them is not.
+fn place_inside(rows: &[Row], key: &End<'_>) -> Option<usize>
+    requires { IsRising (pairs_of rows.now) }
+    ensures inside { IfSome result (λ count. count < length rows.now) }
+    ensures from { IfSome result (λ count. pairs_of (drop count rows.now)
+        ≡ rows_after key.now (pairs_of rows.now)) }
+{
+    let Some(last) = rows.last() else {
+        return None;
+    };
+    if !key.is_reached(&last.key) {
         return None;
     }
-    Some(Place {
-        block: at.block,
-        row: at.row + count,
-    })
+    Some(place_in(rows, key))
 }
 
 /// The first row from the place on.

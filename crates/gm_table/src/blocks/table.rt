@@ -13,9 +13,10 @@ ghost use Rattle.gm_table.specs.Sorted.{IsRising, IsRising-prop, at_key};
 use crate::blocks::batches::{put_rows, remove_keys};
 use crate::blocks::block::Block;
 use crate::blocks::change::{insert_row, remove_row, replace_row};
-use crate::blocks::cursor::{BlockCursor, scan_part};
+use crate::blocks::cursor::{scan_part, scan_range};
 use crate::blocks::find::find_row;
 use crate::blocks::lookup::bytes_at;
+use crate::end::End;
 use crate::{Batch, Row, RowList, Sorted, Visit};
 use gm_base::{Bytes, NoMemory, SpanList, Tally};
 use std::alloc::Global;
@@ -149,8 +150,9 @@ impl Sorted for BlockTable {
         visit: &mut V,
         tally: &mut Tally,
     ) -> Result<(), NoMemory> {
-        let mut cursor = BlockCursor::at(&self.list, low);
-        cursor.scan(alloc, &self.list, low, high, visit, tally)
+        let low = End::of(low);
+        let high = End::of(high);
+        scan_range(alloc, &self.list, &low, &high, visit, tally)
     }
 
     fn scan_spans<V: Visit>(
