@@ -80,6 +80,7 @@ impl BlockTable {
                 Ok(Some(replace_row(alloc, &mut self.list, at, bytes)))
             }
             Err(at) => {
+                // The number of rows is a u64, and there is no room for one more.
                 if self.count == u64::MAX {
                     return Err(NoMemory);
                 }
