@@ -3,6 +3,5 @@ pub mod Found
 pub mod FoundRows
 pub mod Held
 pub mod Kept
-pub mod Ranges
 pub mod Test
 pub mod Trial
