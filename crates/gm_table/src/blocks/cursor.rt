@@ -14,7 +14,7 @@ ghost use Rattle.gm_table.specs.Spans.{rows_in};
 ghost use Rattle.gm_table.specs.Visit.{Handed, Stops};
 
 use crate::blocks::block::Block;
-use crate::blocks::search::{Place, place_in, place_of};
+use crate::blocks::search::{Place, place_in, place_of, place_past};
 use crate::blocks::walk::{hand_out_until, rest_of};
 use crate::end::End;
 use crate::{Row, Visit};
@@ -125,19 +125,21 @@ impl<'a> BlockCursor<'a> {
         }
     }
 
-    // The place of a key: in the same block if it is there.
+    // The place of a key: in the same block if it is there, and else, where the key is not below
+    // the cursor's, in that block or a later one.
     fn reach(&self, blocks: &[Block], low: &End<'_>) -> Place
         requires each { AllByRecursion IsBlock blocks.now }
         requires rising { IsRising (rows_of (lists_of blocks.now)) }
         requires at { IsAtKey blocks.now self.now.from self.now.place.block self.now.place.row }
         ensures { IsAtKey blocks.now low.now result.block result.row }
     {
-        if self.from.is_up_to(low) {
-            if let Some(place) = step_to(blocks, self.place, low) {
-                return place;
-            }
+        if !self.from.is_up_to(low) {
+            return place_from(blocks, low);
         }
-        place_from(blocks, low)
+        if let Some(place) = step_to(blocks, self.place, low) {
+            return place;
+        }
+        place_past(blocks, self.place.block, low)
     }
 }
 
