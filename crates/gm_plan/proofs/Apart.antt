@@ -1,5 +1,6 @@
 -- No key is inside two of the spans that a query reads.
 use Rattle.std.proofs.Common.{◌≡◌, ℕ, ◌≤◌, List, ◌++◌}
+use Rattle.gm_table.specs.Apart.{AreApart}
 use Rattle.gm_trees.specs.Z.{z_shape}
 use Rattle.gm_trees.specs.Xz.{xz_shape}
 use Rattle.gm_types.specs.declared.index.IndexKind.{IndexKind}
@@ -12,7 +13,6 @@ use Rattle.gm_bounds.specs.Intervals.{intervals_of}
 use Rattle.gm_plan.specs.Covering.{CoversPoints, CoversObjects}
 use Rattle.gm_plan.specs.Inside.{read_spans}
 use Rattle.gm_plan.specs.KeyRanges.{list_of}
-use Rattle.gm_plan.specs.Laws.{AreApart}
 use Rattle.gm_plan.specs.Windows.{windows_of}
 use Rattle.gm_plan.proofs.ApartBins.{all_plane, all_space}
 use Rattle.gm_plan.proofs.ApartCodes.{ByteLaws}

@@ -8,8 +8,8 @@ use Rattle.std.specs.declared.cmp.Ordering.{Ordering}
 use Rattle.std.specs.declared.cmp.Ordering.TheVariants.{Less, Equal, Greater}
 use Rattle.std.specs.Cmp.Lexicographic.{slice_cmp}
 use Rattle.gm_base.specs.Spans.{Span}
+use Rattle.gm_table.specs.Apart.{times_inside, AreApart}
 use Rattle.gm_table.specs.Sorted.{is_within}
-use Rattle.gm_plan.specs.Laws.{times_inside, AreApart}
 
 abbrev pub C : List ℕ → List ℕ → Ordering
 C a b = slice_cmp nat_cmp a b

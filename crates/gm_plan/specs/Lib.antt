@@ -3,7 +3,6 @@ pub mod Covering
 pub mod Inside
 pub mod KeyRanges
 pub mod Known
-pub mod Laws
 pub mod Lines
 pub mod Merged
 pub mod Raised

@@ -1,6 +1,7 @@
 // The laws of inclusion and of spans. Each is the contract of a function that does nothing but call
 // those that it rests on.
 ghost use Rattle.std.specs.Prelude.{◌≡◌, ◌≤◌, ℕ, ℤ, List, Some, true, length, MatchOption};
+ghost use Rattle.gm_table.specs.Apart.{AreApart};
 ghost use Rattle.gm_calendar.specs.declared.period.Period.{Period};
 ghost use Rattle.gm_calendar.specs.Bin.{bin_at, HasNoBin, IsBinOf};
 ghost use Rattle.gm_types.specs.declared.index.IndexKind.{IndexKind};
@@ -19,7 +20,6 @@ ghost use Rattle.gm_trees.specs.Z.{IsZSize};
 ghost use Rattle.gm_trees.specs.Xz.{IsXzSize};
 ghost use Rattle.gm_plan.specs.Covering.{CoversPoints, CoversObjects};
 ghost use Rattle.gm_plan.specs.Inside.{KeepsTarget, LosesNone, count_of, is_inside, read_spans};
-ghost use Rattle.gm_plan.specs.Laws.{AreApart};
 ghost use Rattle.gm_plan.specs.Spans.{spans_of};
 
 use gm_bounds::{

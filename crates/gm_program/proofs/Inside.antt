@@ -10,6 +10,7 @@ use Rattle.std.specs.FinMap as features
 use Rattle.std.specs.FinMap.{entries_sorted, get-entries}
 use Rattle.gm_base.specs.declared.NoMemory.{NoMemory}
 use Rattle.gm_base.specs.Spans.{Span}
+use Rattle.gm_table.specs.Apart.{times_inside, AreApart}
 use Rattle.gm_table.specs.Sorted.{Rows, RowMap, at_key, is_within, between}
 use Rattle.gm_table.specs.Spans.{rows_in}
 use Rattle.gm_types.specs.declared.index.IndexKind.{IndexKind}
@@ -31,7 +32,6 @@ use Rattle.gm_bounds.specs.declared.ranges.KeyRanges.{KeyRanges}
 use Rattle.gm_plan.specs.KeyRanges.{key_ranges}
 use Rattle.gm_plan.specs.Spans.{spans_of}
 use Rattle.gm_plan.specs.Inside.{is_inside, read_spans, IsRead}
-use Rattle.gm_plan.specs.Laws.{times_inside, AreApart}
 use Rattle.gm_scan.specs.FoundRows.{FoundRow}
 use Rattle.gm_scan.specs.Held.{AreBytesOf, HasFeature, Hold, matching}
 use Rattle.gm_strategy.specs.Chosen.{Chosen, IsServed}

@@ -10,6 +10,7 @@ use Rattle.std.specs.FinMap.Entries.{below_all, find-put, is_sorted-put, length-
 use Rattle.std.specs.BTreeMap.{insert_entry}
 use Rattle.gm_base.specs.declared.NoMemory.{NoMemory}
 use Rattle.gm_base.specs.Spans.{Span}
+use Rattle.gm_table.specs.Apart.{times_inside, AreApart}
 use Rattle.gm_table.specs.Sorted.{Rows, is_within, between}
 use Rattle.gm_table.specs.Spans.{rows_in}
 use Rattle.gm_types.specs.declared.index.IndexKind.{IndexKind}
@@ -20,7 +21,6 @@ use Rattle.gm_filter.specs.Truth.{is_true}
 use Rattle.gm_keys.specs.Key.{key_of}
 use Rattle.gm_scan.specs.Held.{Hold, matching}
 use Rattle.gm_plan.specs.Inside.{read_spans}
-use Rattle.gm_plan.specs.Laws.{times_inside, AreApart}
 use Rattle.gm_engine_rows.specs.State.{State, feature_at}
 use Rattle.gm_engine_rows.specs.Rows.{row_map, rows_of}
 use Rattle.gm_strategy.specs.Chosen.{Chosen, IsServed}

@@ -3,6 +3,7 @@ use Rattle.std.proofs.Common.{◌≡◌, ℕ, ◌+◌, ◌≤◌, true, false, c
 use Rattle.std.proofs.lemmas.List.Elements.{All-head, All-tail}
 use Rattle.std.specs.Prelude.{All, if◌then◌else◌}
 use Rattle.gm_base.specs.Spans.{Span}
+use Rattle.gm_table.specs.Apart.{times_inside, AreApart}
 use Rattle.gm_table.specs.Sorted.{Rows, is_within, between}
 use Rattle.gm_table.specs.Spans.{rows_in}
 use Rattle.gm_types.specs.Specification.{Specification}
@@ -12,7 +13,6 @@ use Rattle.gm_feature.specs.Spelling.{feature_bytes}
 use Rattle.gm_filter.specs.Tree.{Tree}
 use Rattle.gm_filter.specs.Truth.{is_true}
 use Rattle.gm_scan.specs.Held.{HasFeature, Hold, matching}
-use Rattle.gm_scan.specs.Ranges.{times_inside, AreApart}
 
 pub some_held : (t : Specification) (rows : Rows) → All (λ row. HasFeature t row.1) rows → (held : List Feature) × Hold t rows held
 some_held t [] each = ([], tt)

@@ -4,7 +4,6 @@ pub mod FoundRows
 pub mod Held
 pub mod Kept
 pub mod Literals
-pub mod Ranges
 pub mod Test
 pub mod Texts
 pub mod Trial

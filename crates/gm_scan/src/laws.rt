@@ -2,12 +2,12 @@
 // call those that it rests on.
 ghost use Rattle.std.specs.Prelude.{◌≡◌, ◌≤◌, ◌++◌, ℕ, List, All, length};
 ghost use Rattle.gm_base.specs.Spans.{Span};
+ghost use Rattle.gm_table.specs.Apart.{AreApart};
 ghost use Rattle.gm_table.specs.Sorted.{Rows};
 ghost use Rattle.gm_table.specs.Spans.{rows_in};
 ghost use Rattle.gm_types.specs.Specification.{Specification};
 ghost use Rattle.gm_feature.specs.declared.feature.Feature.{Feature};
 ghost use Rattle.gm_scan.specs.Held.{HasFeature, Hold};
-ghost use Rattle.gm_scan.specs.Ranges.{AreApart};
 
 use gm_feature::bytes_tell_features_apart;
 

@@ -1,6 +1,7 @@
 // Features in ranges of keys of which a filter is true, their number, and their rows.
 ghost use Rattle.std.specs.Prelude.{◌≡◌, ◌≤◌, ◌++◌, ℕ, List, All, IfOk, OnOk, OnErr, length, map};
 ghost use Rattle.gm_base.specs.Counter.{capped_sum};
+ghost use Rattle.gm_table.specs.Apart.{AreApart};
 ghost use Rattle.gm_table.specs.Spans.{rows_in};
 ghost use Rattle.gm_table.specs.Visit.{Handed};
 ghost use Rattle.gm_feature.specs.declared.feature.Feature.{Feature as AnyFeature};
@@ -9,7 +10,6 @@ ghost use Rattle.gm_filter.specs.Tree.{tree};
 ghost use Rattle.gm_scan.specs.FoundRows.{row_of, id_of};
 ghost use Rattle.gm_scan.specs.Held.{HasFeature, Hold, matching};
 ghost use Rattle.gm_scan.specs.Kept.{kept_of};
-ghost use Rattle.gm_scan.specs.Ranges.{AreApart};
 
 use crate::FoundRows;
 use crate::counted::Counted;

@@ -2,11 +2,11 @@
 use Rattle.std.proofs.Common.{◌≡◌, List, [], ◌∷◌, ◌++◌, append_assoc, ℕ, zero, suc, ◌+◌, ◌-◌, ◌<◌, ◌≤◌, length, take, drop, get_or, refl, sym, ap, subst, ◌∙◌, arith, length-append}
 use Rattle.std.proofs.Math.ListN.{set}
 use Rattle.std.proofs.lemmas.List.{get_or_default}
-use Rattle.std.specs.List.{AllByRecursion, insert, remove}
+use Rattle.std.specs.List.{insert, remove}
 use Rattle.std.specs.Prelude.{Result, Ok, Err, OnOk, OnErr}
 use Rattle.gm_table.specs.declared.row.Row.{Row}
 use Rattle.gm_table.specs.declared.blocks.block.Block.{Block}
-use Rattle.gm_table.specs.Blocks.{pair_of, pairs_of, rows_of, lists_of, IsBlock, IsPlace, IsRowAt, HasRoom, IsCut, rows_at, rows_until}
+use Rattle.gm_table.specs.Blocks.{pair_of, pairs_of, rows_of, lists_of, most_rows, IsPlace, IsRowAt, HasRoom, IsCut, rows_at, rows_until}
 use Rattle.gm_table.proofs.BlockWalks.{append_none, rows_at_get, none_behind}
 
 -- ---- lists in two parts
@@ -328,7 +328,7 @@ pub record IsSame (n row m other : ℕ) (before after : List Block) : Type 0 whe
   pub until : rows_until m other after ≡ rows_until n row before
   pub from : rows_at m other after ≡ rows_at n row before
 
-pub same_first : (before after : List Block) (n count row : ℕ) (d : Block) → IsCut n count before after → n < length before → row ≤ count → count ≤ length (get_or before n d).rows → count < 4096
+pub same_first : (before after : List Block) (n count row : ℕ) (d : Block) → IsCut n count before after → n < length before → row ≤ count → count ≤ length (get_or before n d).rows → count < most_rows
     → IsSame n row n row before after
 same_first before after n count row d cut within up few small =
     let rows = (get_or before n d).rows in
@@ -351,7 +351,7 @@ same_first before after n count row d cut within up few small =
     }
 
 pub same_second : (before after : List Block) (n count more row : ℕ) (d : Block) → IsCut n count before after → n < length before → row ≡ count + more → row ≤ length (get_or before n d).rows
-    → length (get_or before n d).rows ≤ 4096 → 1 ≤ count → IsSame n row (suc n) more before after
+    → length (get_or before n d).rows ≤ most_rows → 1 ≤ count → IsSame n row (suc n) more before after
 same_second before after n count more row d cut within sum inside size some =
     let rows = (get_or before n d).rows in
     let front = rows_of (lists_of (take n before)) in

@@ -1,6 +1,7 @@
 -- Places in blocks whose keys rise.
-use Rattle.std.proofs.Common.{◌≡◌, List, [], ◌∷◌, ◌++◌, ℕ, zero, suc, ◌<◌, ◌≤◌, Bool, true, false, true≢false, cond, not, length, take, drop, get_or, refl, sym, ap, ◌∙◌, arith, inl, inr}
+use Rattle.std.proofs.Common.{◌≡◌, List, [], ◌∷◌, ◌++◌, ℕ, zero, suc, ◌<◌, ◌≤◌, Bool, true, false, true≢false, cond, not, length, take, drop, get_or, refl, sym, ap, ◌∙◌, arith, inl, inr, length-append, length-drop}
 use Rattle.std.proofs.lemmas.Bool.{cases_lt}
+use Rattle.std.proofs.lemmas.List.{length-map}
 use Rattle.std.specs.Ordering.{nat_cmp, is_le, ordering_reverse}
 use Rattle.std.specs.Cmp.Lexicographic.{slice_cmp, nat_list_cmp_total}
 use Rattle.std.specs.declared.cmp.Ordering.{Ordering}
@@ -257,3 +258,48 @@ rising_drop [] zero rising = tt
 rising_drop [] (suc n) rising = tt
 rising_drop (row ∷ rows) zero rising = rising
 rising_drop (row ∷ rows) (suc n) rising = rising_drop rows n rising.1
+
+-- ---- blocks before the place of a key
+after_part : (key : List ℕ) (xs ys : Rows) → length (rows_after key (xs ++ ys)) ≤ length ys → rows_after key (xs ++ ys) ≡ rows_after key ys
+after_part key [] ys few = refl
+after_part key (x ∷ xs) ys few =
+    elim (is_le (slice_cmp nat_cmp key x.0)) as (λ b. length (cond b (x ∷ (xs ++ ys)) (rows_after key (xs ++ ys))) ≤ length ys → cond b (x ∷ (xs ++ ys)) (rows_after key (xs ++ ys)) ≡ rows_after key ys) [
+      | true ↦ λ few. absurd (omega (arith, few, length-append xs ys))
+      | false ↦ after_part key xs ys
+    ] few
+
+at_few : (n row : ℕ) (blocks : List Block) → length (rows_at n row blocks) ≤ length (rows_of (lists_of blocks))
+at_few n row [] = omega arith
+at_few zero row (block ∷ blocks) =
+    let rest = rows_of (lists_of blocks) in
+    omega (arith, length-append (pairs_of (drop row block.rows)) rest, length-append (pairs_of block.rows) rest, length-map (drop row block.rows) pair_of, length-map block.rows pair_of, length-drop row block.rows)
+at_few (suc n) row (block ∷ blocks) = omega (arith, at_few n row blocks, length-append (pairs_of block.rows) (rows_of (lists_of blocks)))
+
+begins_by : (from key : List ℕ) (rows : List Row) (later : Rows) → 1 ≤ length rows → is_le (slice_cmp nat_cmp from key) ≡ true → length (rows_after from (pairs_of rows ++ later)) ≤ length later
+    → is_le (slice_cmp nat_cmp (first_key rows) key) ≡ true
+begins_by from key [] later some up few = absurd (omega arith)
+begins_by from key (row ∷ rows) later some up few =
+    elim (is_le (slice_cmp nat_cmp from row.key)) as (λ b. is_le (slice_cmp nat_cmp from row.key) ≡ b
+    → length (cond b (pair_of row ∷ (pairs_of rows ++ later)) (rows_after from (pairs_of rows ++ later))) ≤ length later → is_le (slice_cmp nat_cmp row.key key) ≡ true) [
+      | true ↦ λ _ few. absurd (omega (arith, few, length-append (pairs_of rows) later))
+      | false ↦ λ away _. le_trans row.key from key (not_reached from row.key away) up
+    ] refl few
+
+-- those before the place of a key begin by each key that is not below it
+pub begun_until : (from key : List ℕ) (blocks : List Block) → AllByRecursion IsBlock blocks → (n row : ℕ) → rows_at n row blocks ≡ rows_after from (rows_of (lists_of blocks))
+    → is_le (slice_cmp nat_cmp from key) ≡ true → (i : ℕ) (d : Block) → i < n → i < length blocks → is_begun key (get_or blocks i d) ≡ true
+begun_until from key [] each n row at up i d less within = absurd (omega (arith, within))
+begun_until from key (block ∷ blocks) each zero row at up i d less within = absurd (omega (arith, less))
+begun_until from key (block ∷ blocks) each (suc n) row at up zero d less within =
+    let rest = rows_of (lists_of blocks) in
+    begins_by from key block.rows rest each.0.sized.some up (omega (arith, ap length at, at_few n row blocks))
+begun_until from key (block ∷ blocks) each (suc n) row at up (suc i) d less within =
+    let rest = rows_of (lists_of blocks) in
+    let few : length (rows_after from (pairs_of block.rows ++ rest)) ≤ length rest = omega (arith, ap length at, at_few n row blocks) in
+    begun_until from key blocks each.1 n row (at ∙ after_part from (pairs_of block.rows) rest few) up i d (omega (arith, less)) (omega (arith, within))
+
+pub block_within : (n row : ℕ) (blocks : List Block) → IsPlace n row blocks → n ≤ length blocks
+block_within n row [] place = omega (arith, place.0)
+block_within zero row (block ∷ blocks) place = omega arith
+block_within (suc n) row (block ∷ []) place = absurd place
+block_within (suc n) row (block ∷ other ∷ blocks) place = omega (arith, block_within n row (other ∷ blocks) place)

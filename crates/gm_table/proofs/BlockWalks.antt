@@ -131,6 +131,15 @@ after_drop key rows row count end is from = ap (λ (k : ℕ). pairs_of (drop k r
 length_after : (key : List ℕ) (rows : List Row) (row end : ℕ) → pairs_of (drop end rows) ≡ rows_after key (pairs_of (drop row rows)) → length (rows_after key (pairs_of (drop row rows))) ≡ length rows - end
 length_after key rows row end from = sym (ap length from) ∙ length-map (drop end rows) pair_of ∙ length-drop end rows
 
+-- where one row is not before the key, not all are
+pub some_after : (key : List ℕ) (rows : List Row) (i : ℕ) (d : Row) → i < length rows → is_le (slice_cmp nat_cmp key (get_or rows i d).key) ≡ true → 0 < length (rows_after key (pairs_of rows))
+some_after key [] i d within up = absurd (omega arith)
+some_after key (row ∷ rows) zero d within up = subst (λ b. 0 < length (cond b (pair_of row ∷ pairs_of rows) (rows_after key (pairs_of rows)))) (sym up) (omega arith)
+some_after key (row ∷ rows) (suc i) d within up = elim (is_le (slice_cmp nat_cmp key row.key)) as (λ b. 0 < length (cond b (pair_of row ∷ pairs_of rows) (rows_after key (pairs_of rows)))) [
+  | true ↦ omega arith
+  | false ↦ some_after key rows i d (omega arith) up
+]
+
 pub ends_within : (key : List ℕ) (blocks : List Block) (n row count end : ℕ) (d : Block) → n < length blocks → end ≡ row + count → end < length (get_or blocks n d).rows
     → pairs_of (drop count (drop row (get_or blocks n d).rows)) ≡ rows_after key (pairs_of (drop row (get_or blocks n d).rows)) → Ends key blocks n row end (get_or blocks n d).rows
 ends_within key blocks n row count end d within is few from =

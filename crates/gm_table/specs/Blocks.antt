@@ -24,10 +24,14 @@ abbrev pub rows_of : List (List Row) → Rows
 rows_of [] = []
 rows_of (rows ∷ blocks) = pairs_of rows ++ rows_of blocks
 
+-- no block has more rows
+abbrev pub most_rows : ℕ
+most_rows = 4096
+
 -- 1 to 4,096 rows
 pub record IsSized (rows : List Row) : Type 0 where
   pub some : 1 ≤ length rows
-  pub few : length rows ≤ 4096
+  pub few : length rows ≤ most_rows
 
 -- the key of the first row
 abbrev pub first_key : List Row → List ℕ
@@ -94,7 +98,7 @@ pub record IsGap (key : List ℕ) (before after : Rows) : Type 0 where
 pub record HasRoom (n row : ℕ) (blocks : List Block) : Type 0 where
   pub within : n < length blocks
   pub inside : (d : Block) → row ≤ length (slice_index_or blocks n d).rows
-  pub room : (d : Block) → length (slice_index_or blocks n d).rows < 4096
+  pub room : (d : Block) → length (slice_index_or blocks n d).rows < most_rows
 
 -- two blocks in place of one, of which the first has so many of its rows
 pub record IsCut (n count : ℕ) (before after : List Block) : Type 0 where

@@ -1,3 +1,4 @@
+pub mod Apart
 pub mod Batch
 pub mod BlockTable
 pub mod Blocks

@@ -1,6 +1,6 @@
 // Changes of an ordered map, whole or not at all.
 ghost use Rattle.std.specs.Prelude.{◌≡◌, ◌≤◌, ℕ, List, None, Some, if◌then◌else◌};
-ghost use Rattle.std.specs.Prelude.{length, [], ◌∷◌, ◌++◌, OnOk, OnErr, IsOk};
+ghost use Rattle.std.specs.Prelude.{length, [], ◌∷◌, OnOk, OnErr, IfOk, IsOk};
 ghost use Rattle.gm_table.specs.Sorted.{IsRising, at_key};
 ghost use Rattle.gm_table.specs.Batch.{has_key, put_at};
 ghost use Rattle.gm_table.specs.Changes.{restored_at, undone_at};
@@ -9,6 +9,7 @@ use crate::Row;
 use gm_base::{Bytes, NoMemory};
 use std::alloc::Global;
 use std::collections::BTreeMap;
+use std::mem;
 
 /// Puts these rows in, one after the other. Where there is no memory for one, those before it are
 /// taken back.
@@ -24,38 +25,39 @@ pub(crate) fn put_rows(
     ensures none { puts.now ≡ [] → IsOk result }
     ensures rising { IsRising map.new.entries }
 {
-    let mut olds = Vec::new(alloc);
+    let mut olds = Vec::with_capacity(alloc, puts.len())?;
     for put in puts {
-        if let Err(error) = put_one(alloc, map, put, &mut olds) {
-            take_back(map, puts, olds);
-            return Err(error);
+        match put_one(alloc, map, put) {
+            Ok(old) => olds.push_reserved(old),
+            Err(error) => {
+                take_back(map, puts, olds);
+                return Err(error);
+            }
         }
     }
     Ok(())
 }
 
-// Puts a row in, and notes what its key had.
+// Puts a copy of a row in, and answers the bytes that its key had.
 fn put_one(
     alloc: Global,
     map: &mut BTreeMap<Bytes, Bytes>,
     put: &Row,
-    olds: &mut Vec<Option<Bytes>>,
-) -> Result<(), NoMemory>
+) -> Result<Option<Bytes>, NoMemory>
     requires { IsRising map.old.entries }
     ensures ok { OnOk result ((key : List ℕ)
         → at_key key map.new.entries ≡ put_at key (put.now ∷ []) (at_key key map.old.entries)) }
-    ensures noted { OnOk result (olds.new.items
-        ≡ olds.old.items ++ at_key put.now.key map.old.entries ∷ []) }
+    ensures had { IfOk result (λ old. old ≡ at_key put.now.key map.old.entries) }
     ensures err { OnErr result (map.new.entries ≡ map.old.entries) }
-    ensures err_olds { OnErr result (olds.new.items ≡ olds.old.items) }
     ensures rising { IsRising map.new.entries }
 {
-    let key = put.key.copy(alloc)?;
     let bytes = put.bytes.copy(alloc)?;
-    olds.reserve(1)?;
+    if let Some(place) = map.get_mut(&put.key) {
+        return Ok(Some(mem::replace(place, bytes)));
+    }
+    let key = put.key.copy(alloc)?;
     let old = map.insert(key, bytes)?;
-    let _ = olds.push(old);
-    Ok(())
+    Ok(old)
 }
 
 // Gives the keys of the rows that were put in what they had, the last first.

@@ -125,7 +125,7 @@ impl<'a> Cursor<'a> {
     }
 }
 
-// The rows from a key on, with some below it where there was no memory for a copy of the key.
+// The rows from a key on, or all rows where there was no memory for a copy of the key.
 fn way_down<'a>(
     map: &'a BTreeMap<Bytes, Bytes>,
     low: &[u8],
@@ -242,11 +242,12 @@ fn hand_out<'a, V: Visit>(
         visit.row(alloc, key.as_slice(), bytes.as_slice())?;
         next = rest.next();
     }
-    let left = hand_out_many(map, alloc, next, rest, high, room, visit, tally)?;
-    Ok(left)
+    hand_out_many(map, alloc, next, rest, high, room, visit, tally)
 }
 
-// Does the same, and searches for the end first.
+// Hands out the rows below the key, and answers the first of the others. The end is searched for,
+// so that of the rows only the first is compared with the key. Where there is no memory for a copy
+// of the key, each is.
 fn hand_out_many<'a, V: Visit>(
     map: &'a BTreeMap<Bytes, Bytes>,
     alloc: Global,
@@ -280,8 +281,7 @@ fn hand_out_many<'a, V: Visit>(
         return Ok(place);
     }
     if !holds(room, high) {
-        let left = hand_out_all(alloc, place, rest, high, visit, tally)?;
-        return Ok(left);
+        return hand_out_all(alloc, place, rest, high, visit, tally);
     }
     scan_range(alloc, map, first, room, visit, tally)?;
     *rest = way_down(map, high, room);
@@ -296,7 +296,7 @@ fn holds(room: &mut Bytes, key: &[u8]) -> bool
     room.append(key).is_ok()
 }
 
-// Does the same, and compares each row with the key.
+// Hands out the rows below the key, each compared with it, and answers the first of the others.
 fn hand_out_all<'a, V: Visit>(
     alloc: Global,
     place: Option<(&'a Bytes, &'a Bytes)>,

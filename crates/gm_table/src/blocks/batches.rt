@@ -1,6 +1,6 @@
 // Changes of a table of blocks, whole or not at all.
 ghost use Rattle.std.specs.Prelude.{◌≡◌, ◌≤◌, ℕ, List, None, if◌then◌else◌, length};
-ghost use Rattle.std.specs.Prelude.{[], ◌∷◌, ◌++◌, OnOk, OnErr, IsOk};
+ghost use Rattle.std.specs.Prelude.{[], OnOk, OnErr, IsOk};
 ghost use Rattle.gm_table.specs.Batch.{has_key, put_at};
 ghost use Rattle.gm_table.specs.BlockTable.{blocks_of};
 ghost use Rattle.gm_table.specs.Blocks.{rows_of};
@@ -22,39 +22,16 @@ pub(crate) fn put_rows(alloc: Global, table: &mut BlockTable, puts: &[Row]) -> R
         ≡ rows_of (blocks_of table.old)) }
     ensures none { puts.now ≡ [] → IsOk result }
 {
-    let mut olds = Vec::new(alloc);
+    let mut olds = Vec::with_capacity(alloc, puts.len())?;
     for put in puts {
-        if let Err(error) = put_one(alloc, table, put, &mut olds) {
-            take_back(alloc, table, puts, olds);
-            return Err(error);
+        match table.put(alloc, put) {
+            Ok(old) => olds.push_reserved(old),
+            Err(error) => {
+                take_back(alloc, table, puts, olds);
+                return Err(error);
+            }
         }
     }
-    Ok(())
-}
-
-// Puts a row in, and notes what its key had.
-fn put_one(
-    alloc: Global,
-    table: &mut BlockTable,
-    put: &Row,
-    olds: &mut Vec<Option<Bytes>>,
-) -> Result<(), NoMemory>
-    ensures ok { OnOk result ((key : List ℕ)
-        → at_key key (rows_of (blocks_of table.new))
-        ≡ put_at key (put.now ∷ []) (at_key key (rows_of (blocks_of table.old)))) }
-    ensures noted { OnOk result (olds.new.items
-        ≡ olds.old.items ++ at_key put.now.key (rows_of (blocks_of table.old)) ∷ []) }
-    ensures err { OnErr result (rows_of (blocks_of table.new)
-        ≡ rows_of (blocks_of table.old)) }
-    ensures err_olds { OnErr result (olds.new.items ≡ olds.old.items) }
-{
-    let row = Row {
-        key: put.key.copy(alloc)?,
-        bytes: put.bytes.copy(alloc)?,
-    };
-    olds.reserve(1)?;
-    let old = table.put(alloc, row)?;
-    let _ = olds.push(old);
     Ok(())
 }
 

@@ -4,7 +4,7 @@ ghost use Rattle.std.specs.Prelude.{OnErr, IfOk, slice_set, slice_index_or};
 ghost use Rattle.std.specs.List.{insert, remove};
 ghost use Rattle.std.specs.Ordering.{nat_cmp, is_le};
 ghost use Rattle.std.specs.Cmp.Lexicographic.{slice_cmp};
-ghost use Rattle.gm_table.specs.Blocks.{IsBlock, IsSized, first_key};
+ghost use Rattle.gm_table.specs.Blocks.{IsBlock, IsSized, first_key, most_rows};
 ghost use Rattle.gm_table.specs.declared.row.Row.{Row};
 
 use crate::end::End;
@@ -64,7 +64,7 @@ impl Block {
     pub(crate) fn insert(&mut self, alloc: Global, at: usize, row: Row) -> Result<(), NoMemory>
         requires block { IsBlock self.old }
         requires within { at ≤ length self.old.rows }
-        requires room { length self.old.rows < 4096 }
+        requires room { length self.old.rows < most_rows }
         ensures ok { OnOk result (self.new.rows ≡ insert self.old.rows at row) }
         ensures err { OnErr result (self.new.rows ≡ self.old.rows) }
         ensures block { IsBlock self.new }

@@ -17,7 +17,7 @@ use std::alloc::Global;
 const MOST: usize = 128;
 
 // How many rows the first of the two keeps.
-const HALF: usize = 64;
+const HALF: usize = MOST / 2;
 
 // A block of no more rows is dropped when one of them is taken out.
 const FEWEST: usize = 1;

@@ -1,20 +1,20 @@
 // Spans of keys handed out from blocks, each from where the last one ended.
-ghost use Rattle.std.specs.Prelude.{◌≡◌, ◌≤◌, [], ◌∷◌, ℕ, All, slice_range, OnOk, IfOk};
-ghost use Rattle.std.specs.Prelude.{IfErr, IfSome, MatchOption, length, true};
+ghost use Rattle.std.specs.Prelude.{◌≡◌, ◌≤◌, ◌<◌, [], ◌∷◌, ℕ, All, slice_range, OnOk, IfOk};
+ghost use Rattle.std.specs.Prelude.{IfErr, IfSome, MatchOption, length, drop, true};
 ghost use Rattle.std.specs.List.{AllByRecursion};
 ghost use Rattle.std.specs.Ordering.{nat_cmp, is_le};
 ghost use Rattle.std.specs.Cmp.Lexicographic.{slice_cmp};
 ghost use Rattle.gm_base.specs.Counter.{capped_sum};
 ghost use Rattle.gm_base.specs.Tally.{tally_number};
 ghost use Rattle.gm_table.specs.Blocks.{IsAtKey, IsBlock, IsPlace, lists_of};
-ghost use Rattle.gm_table.specs.Blocks.{pair_of, rows_of, rows_at};
+ghost use Rattle.gm_table.specs.Blocks.{pair_of, pairs_of, rows_of, rows_at};
 ghost use Rattle.gm_table.specs.Cursor.{rows_below, rows_after};
 ghost use Rattle.gm_table.specs.Sorted.{IsRising, Rows, between};
 ghost use Rattle.gm_table.specs.Spans.{rows_in};
 ghost use Rattle.gm_table.specs.Visit.{Handed, Stops};
 
 use crate::blocks::block::Block;
-use crate::blocks::search::{Place, place_in, place_of};
+use crate::blocks::search::{Place, place_in, place_of, place_past};
 use crate::blocks::walk::{hand_out_until, rest_of};
 use crate::end::End;
 use crate::{Row, Visit};
@@ -125,20 +125,49 @@ impl<'a> BlockCursor<'a> {
         }
     }
 
-    // The place of a key: in the same block if it is there.
+    // The place of a key: in the same block if it is there, and else, where the key is not below
+    // the cursor's, in that block or a later one.
     fn reach(&self, blocks: &[Block], low: &End<'_>) -> Place
         requires each { AllByRecursion IsBlock blocks.now }
         requires rising { IsRising (rows_of (lists_of blocks.now)) }
         requires at { IsAtKey blocks.now self.now.from self.now.place.block self.now.place.row }
         ensures { IsAtKey blocks.now low.now result.block result.row }
     {
-        if self.from.is_up_to(low) {
-            if let Some(place) = step_to(blocks, self.place, low) {
-                return place;
-            }
+        if !self.from.is_up_to(low) {
+            return place_from(blocks, low);
         }
-        place_from(blocks, low)
+        if let Some(place) = step_to(blocks, self.place, low) {
+            return place;
+        }
+        place_past(blocks, self.place.block, low)
     }
+}
+
+/// Hands out the rows between two ends.
+pub(crate) fn scan_range<V: Visit>(
+    alloc: Global,
+    blocks: &[Block],
+    low: &End<'_>,
+    high: &End<'_>,
+    visit: &mut V,
+    tally: &mut Tally,
+) -> Result<(), NoMemory>
+    requires each { AllByRecursion IsBlock blocks.now }
+    requires rising { IsRising (rows_of (lists_of blocks.now)) }
+    requires admits { All (λ row. V.admits visit.old row.0 row.1)
+        (between low.now high.now (rows_of (lists_of blocks.now))) }
+    ensures handed { OnOk result (Handed V.takes visit.old
+        (between low.now high.now (rows_of (lists_of blocks.now))) visit.new) }
+    ensures tally { OnOk result (tally_number tally.new ≡ capped_sum (tally_number tally.old)
+        (length (between low.now high.now (rows_of (lists_of blocks.now))))) }
+    ensures stopped { IfErr result (λ fault. (handed : ℕ)
+        × Stops V.takes visit.old
+        (between low.now high.now (rows_of (lists_of blocks.now))) fault visit.new handed
+        × (tally_number tally.new ≡ capped_sum (tally_number tally.old) handed)) }
+{
+    let place = place_from(blocks, low);
+    let _end = hand_out_until(alloc, blocks, place, high, visit, tally)?;
+    Ok(())
 }
 
 /// Hands out the rows of each span in this part of the list in turn, each from where the last one
@@ -188,7 +217,8 @@ fn place_from(blocks: &[Block], low: &End<'_>) -> Place
     place_of(blocks, low)
 }
 
-// The place of a key, where that is before a row of the place's block, from the place on.
+// The place of a key that is not before the given place, if it is in the same block: where a row of
+// that block, from the place on, is not before the key.
 fn step_to(blocks: &[Block], at: Place, key: &End<'_>) -> Option<Place>
     requires rising { IsRising (rows_of (lists_of blocks.now)) }
     requires place { IsPlace at.block at.row blocks.now }
@@ -200,14 +230,29 @@ fn step_to(blocks: &[Block], at: Place, key: &End<'_>) -> Option<Place>
         return None;
     }
     let rest = rest_of(blocks[at.block].rows.as_slice(), at.row);
-    let count = place_in(rest, key);
-    if count >= rest.len() {
+    match place_inside(rest, key) {
+        Some(count) => Some(Place {
+            block: at.block,
+            row: at.row + count,
+        }),
+        None => None,
+    }
+}
+
+// How many of the rows are before the key, if the last of them is not.
+fn place_inside(rows: &[Row], key: &End<'_>) -> Option<usize>
+    requires { IsRising (pairs_of rows.now) }
+    ensures inside { IfSome result (λ count. count < length rows.now) }
+    ensures from { IfSome result (λ count. pairs_of (drop count rows.now)
+        ≡ rows_after key.now (pairs_of rows.now)) }
+{
+    let Some(last) = rows.last() else {
+        return None;
+    };
+    if !key.is_reached(&last.key) {
         return None;
     }
-    Some(Place {
-        block: at.block,
-        row: at.row + count,
-    })
+    Some(place_in(rows, key))
 }
 
 /// The first row from the place on.

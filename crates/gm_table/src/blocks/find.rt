@@ -28,7 +28,7 @@ pub(crate) fn find_row(blocks: &[Block], key: &Bytes) -> Result<Place, Place>
     if at.row >= rows.len() {
         return Err(at);
     }
-    if key.cmp(&rows[at.row].key).is_eq() {
+    if *key == rows[at.row].key {
         return Ok(at);
     }
     Err(at)

@@ -29,7 +29,23 @@ pub(crate) fn place_of(blocks: &[Block], key: &End<'_>) -> Place
     ensures from { rows_at result.block result.row blocks.now
         ≡ rows_after key.now (rows_of (lists_of blocks.now)) }
 {
-    let begun = count_begun(blocks, key);
+    place_past(blocks, 0, key)
+}
+
+/// The place of a key at which, or before which, the first blocks, so many, are known to begin.
+pub(crate) fn place_past(blocks: &[Block], first: usize, key: &End<'_>) -> Place
+    requires each { AllByRecursion IsBlock blocks.now }
+    requires rising { IsRising (rows_of (lists_of blocks.now)) }
+    requires within { first ≤ length blocks.now }
+    requires begun { AllWithin (λ block. is_le (slice_cmp nat_cmp (first_key block.rows) key.now)
+        ≡ true) blocks.now 0 first }
+    ensures place { IsPlace result.block result.row blocks.now }
+    ensures before { rows_until result.block result.row blocks.now
+        ≡ rows_below key.now (rows_of (lists_of blocks.now)) }
+    ensures from { rows_at result.block result.row blocks.now
+        ≡ rows_after key.now (rows_of (lists_of blocks.now)) }
+{
+    let begun = count_begun(blocks, first, key);
     if begun == 0 {
         return Place { block: 0, row: 0 };
     }
@@ -40,17 +56,20 @@ pub(crate) fn place_of(blocks: &[Block], key: &End<'_>) -> Place
     }
 }
 
-// How many of the blocks begin at the key or before it.
-fn count_begun(blocks: &[Block], key: &End<'_>) -> usize
+// How many of the blocks begin at the key or before it. The first, so many, are known to.
+fn count_begun(blocks: &[Block], first: usize, key: &End<'_>) -> usize
     requires each { AllByRecursion IsBlock blocks.now }
     requires rising { IsRising (rows_of (lists_of blocks.now)) }
+    requires within { first ≤ length blocks.now }
+    requires begun { AllWithin (λ block. is_le (slice_cmp nat_cmp (first_key block.rows) key.now)
+        ≡ true) blocks.now 0 first }
     ensures bound { result ≤ length blocks.now }
     ensures begun { AllWithin (λ block. is_le (slice_cmp nat_cmp (first_key block.rows) key.now)
         ≡ true) blocks.now 0 result }
     ensures others { AllWithin (λ block. is_le (slice_cmp nat_cmp (first_key block.rows) key.now)
         ≡ false) blocks.now result (length blocks.now) }
 {
-    let mut low = 0;
+    let mut low = first;
     let mut high = blocks.len();
     'halves: while low < high {
         let middle = low + (high - low) / 2;

@@ -13,9 +13,10 @@ ghost use Rattle.gm_table.specs.Sorted.{IsRising, IsRising-prop, at_key};
 use crate::blocks::batches::{put_rows, remove_keys};
 use crate::blocks::block::Block;
 use crate::blocks::change::{insert_row, remove_row, replace_row};
-use crate::blocks::cursor::{BlockCursor, scan_part};
+use crate::blocks::cursor::{scan_part, scan_range};
 use crate::blocks::find::find_row;
 use crate::blocks::lookup::bytes_at;
+use crate::end::End;
 use crate::{Batch, Row, RowList, Sorted, Visit};
 use gm_base::{Bytes, NoMemory, SpanList, Tally};
 use std::alloc::Global;
@@ -63,22 +64,27 @@ impl BlockTable {
         &self.list[i].rows
     }
 
-    /// Puts a row in, and answers the bytes that its key had.
-    pub(crate) fn put(&mut self, alloc: Global, row: Row) -> Result<Option<Bytes>, NoMemory>
+    /// Puts a copy of a row in, and answers the bytes that its key had.
+    pub(crate) fn put(&mut self, alloc: Global, put: &Row) -> Result<Option<Bytes>, NoMemory>
         ensures ok { OnOk result ((key : List ℕ)
             → at_key key (rows_of (blocks_of self.new)) ≡ put_at
-            key (row ∷ []) (at_key key (rows_of (blocks_of self.old)))) }
+            key (put.now ∷ []) (at_key key (rows_of (blocks_of self.old)))) }
         ensures had { IfOk result (λ old. old
-            ≡ at_key row.key (rows_of (blocks_of self.old))) }
+            ≡ at_key put.now.key (rows_of (blocks_of self.old))) }
         ensures err { OnErr result (rows_of (blocks_of self.new)
             ≡ rows_of (blocks_of self.old)) }
     {
-        match find_row(&self.list, &row.key) {
-            Ok(at) => Ok(Some(replace_row(alloc, &mut self.list, at, row.bytes))),
+        match find_row(&self.list, &put.key) {
+            Ok(at) => {
+                let bytes = put.bytes.copy(alloc)?;
+                Ok(Some(replace_row(alloc, &mut self.list, at, bytes)))
+            }
             Err(at) => {
+                // The number of rows is a u64, and there is no room for one more.
                 if self.count == u64::MAX {
                     return Err(NoMemory);
                 }
+                let row = put.copy(alloc)?;
                 insert_row(alloc, &mut self.list, at, row)?;
                 self.count += 1;
                 Ok(None)
@@ -145,8 +151,9 @@ impl Sorted for BlockTable {
         visit: &mut V,
         tally: &mut Tally,
     ) -> Result<(), NoMemory> {
-        let mut cursor = BlockCursor::at(&self.list, low);
-        cursor.scan(alloc, &self.list, low, high, visit, tally)
+        let low = End::of(low);
+        let high = End::of(high);
+        scan_range(alloc, &self.list, &low, &high, visit, tally)
     }
 
     fn scan_spans<V: Visit>(

@@ -1,4 +1,5 @@
 use Rattle.std.proofs.Common.{◌≡◌, ℕ, List, length, take}
+use Rattle.std.specs.Vec.{vec_capacity}
 use Rattle.gm_table.specs.Sorted.{IsRising, at_key}
 use Rattle.gm_table.specs.Batch.{put_at}
 use Rattle.gm_table.specs.Changes.{undone_at}
@@ -9,5 +10,6 @@ invariant-loop-put l = record {
   put : (key : List ℕ) → at_key key l.map.entries ≡ put_at key (take l.put-index l.puts) (at_key key l.fn.map.entries);
   undone : (key : List ℕ) → undone_at key l.puts l.olds.items (at_key key l.map.entries) ≡ at_key key l.fn.map.entries;
   count : length l.olds.items ≡ l.put-index;
+  room : vec_capacity l.olds ≡ length l.puts;
   rising : IsRising l.map.entries;
 }

@@ -2,7 +2,7 @@ use Rattle.std.proofs.Common.{◌≡◌, ◌+◌, ◌++◌, ◌∷◌, List, [],
 use Rattle.std.specs.Prelude.{Ok, Err, All}
 use Rattle.std.specs.Ordering.{nat_cmp, is_le}
 use Rattle.std.specs.Cmp.Lexicographic.{slice_cmp}
-use Rattle.std.proofs.lemmas.Result.{err_from_is_err_and}
+use Rattle.std.proofs.lemmas.Result.{err_from_is_err_and, IfErr-weaker, on_ok_weaker}
 use Rattle.std.proofs.lemmas.Grind.{common_steps}
 use Rattle.std.proofs.lemmas.List.Elements.{All-weaker}
 use Rattle.gm_base.specs.Tally.{tally_number}
@@ -71,21 +71,19 @@ hand_out_many-requires-clause-admits g c =
     let P = λ (row : List ℕ × List ℕ). g.V.Visit.admits c.few.visit row.0 row.1 in
     All-back P c.few.invariant.walk.done (rows_below c.args.high.now (pending c.few.next c.few.rest)) (subst (All P) c.few.invariant.walk.below c.few.invariant.admits)
 
-pub returns-in_err-left-clause-stopped : goal.returns-in_err-left-clause-stopped
-returns-in_err-left-clause-stopped g c =
+pub returns-clause-stopped : goal.returns-clause-stopped
+returns-clause-stopped g c =
     let walk = c.few.invariant.walk in
     let left = rows_below c.args.high.now (pending c.few.next c.few.rest) in
-    let p = err_from_is_err_and c.from_residual-in_err-left.result c.from_residual-in_err-left.ensures.1 in
-    let stopped = c.in_err-left.ensures.stopped in
-    rw (p.1, p.2) (
+    IfErr-weaker c.hand_out_many.result _ _ (λ fault stopped. (
       length walk.done + stopped.0,
-      stops_after g.V.Visit.takes c.args.visit.now c.few.visit c.hand_out_many.new.visit walk.done left [] _ c.in_err-left.field-0.0 stopped.0
+      stops_after g.V.Visit.takes c.args.visit.now c.few.visit c.hand_out_many.new.visit walk.done left [] _ fault stopped.0
           (walk.below ∙ ap (λ rows. walk.done ++ rows) (sym (append_nil left))) walk.handed stopped.1,
       capped_more _ _ _ (length walk.done) stopped.0 _ walk.tally stopped.2 (omega arith),
-    )
+    )) c.hand_out_many.ensures.stopped
 
 pub returns-clause-handed : goal.returns-clause-handed
 returns-clause-handed g c =
     let walk = c.few.invariant.walk in
-    subst (λ rows. Handed g.V.Visit.takes c.args.visit.now rows c.hand_out_many.new.visit) (sym walk.below)
-    (Handed-both g.V.Visit.takes c.args.visit.now c.few.visit c.hand_out_many.new.visit walk.done (rows_below c.args.high.now (pending c.few.next c.few.rest)) walk.handed c.in_ok-left.ensures.handed)
+    on_ok_weaker c.hand_out_many.result (λ handed. subst (λ rows. Handed g.V.Visit.takes c.args.visit.now rows c.hand_out_many.new.visit) (sym walk.below)
+    (Handed-both g.V.Visit.takes c.args.visit.now c.few.visit c.hand_out_many.new.visit walk.done (rows_below c.args.high.now (pending c.few.next c.few.rest)) walk.handed handed)) c.hand_out_many.ensures.handed

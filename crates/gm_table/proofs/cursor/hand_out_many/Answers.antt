@@ -29,7 +29,7 @@ pub returns-in_err-scan_range-clause-stopped : goal.returns-in_err-scan_range-cl
 returns-in_err-scan_range-clause-stopped g c =
     let first : pending c.args.place c.args.rest.now ≡ (c.in-Some.first.now, c.in-Some.field-0-1.now) ∷ c.args.rest.now = ap (λ place. pending place c.args.rest.now) c.in-Some.is in
     let same = ranged _ _ _ c.args.map.now.entries c.args.high.now c.holds.new.room first c.requires.last c.requires.rising (c.if-not-holds.ensures refl) in
-    let p = err_from_is_err_and c.from_residual-in_err-scan_range.result c.from_residual-in_err-scan_range.ensures.1 in
+    let p = err_from_is_err_and c.from_residual.result c.from_residual.ensures.1 in
     let stopped = c.in_err-scan_range.ensures.stopped in
     rw (p.1, p.2) (
       stopped.0,

@@ -1,7 +1,7 @@
 use Rattle.std.proofs.Common.{◌≡◌, ◌∙◌, length, sym, ap, subst, arith}
 use Rattle.gm_base.specs.Counter.{capped_sum}
+use Rattle.gm_table.specs.Apart.{AreApart}
 use Rattle.gm_filter.specs.Tree.{tree}
-use Rattle.gm_plan.specs.Laws.{AreApart}
 use Rattle.gm_strategy.specs.Chosen.{chosen_of}
 use Rattle.gm_program.proofs.Inside.{of_index_from, scan_has_features, part_counted}
 use Rattle.gm_program.proofs.Once.{part_counts}

@@ -1,4 +1,4 @@
-use Rattle.std.proofs.Common.{◌≡◌, ◌<◌, ◌≤◌, suc, length, get_or, arith}
+use Rattle.std.proofs.Common.{arith}
 use Rattle.gm_table.proofs.BlockChanges.{at_end, at_none}
 use Rattle.gm_table.proofs.blocks.change.begins_block.Goals as goal
 

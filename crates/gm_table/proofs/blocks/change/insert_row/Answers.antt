@@ -1,4 +1,4 @@
-use Rattle.std.proofs.Common.{◌≡◌, List, [], ◌∷◌, ◌++◌, ◌<◌, suc, length, subst, sym, ap, ◌∙◌, get_or, arith}
+use Rattle.std.proofs.Common.{◌≡◌, List, [], ◌∷◌, ◌++◌, subst, sym, ap, ◌∙◌}
 use Rattle.std.specs.List.{insert}
 use Rattle.gm_table.specs.declared.blocks.block.Block.{Block}
 use Rattle.gm_table.specs.Blocks.{pair_of, rows_at, rows_until}

@@ -2,7 +2,7 @@ use Rattle.std.proofs.Common.{◌≡◌, ◌+◌, ◌-◌, ◌<◌, ◌≤◌, s
 use Rattle.std.proofs.lemmas.List.{get_or_default}
 use Rattle.gm_table.specs.declared.blocks.block.Block.{Block}
 use Rattle.gm_table.specs.declared.blocks.change.TheConstants.{HALF, MOST}
-use Rattle.gm_table.specs.Blocks.{HasRoom, rows_at, rows_until}
+use Rattle.gm_table.specs.Blocks.{HasRoom, most_rows, rows_at, rows_until}
 use Rattle.gm_table.proofs.BlockPlaces.{block_at}
 use Rattle.gm_table.proofs.BlockWalks.{place_bound}
 use Rattle.gm_table.proofs.BlockChanges.{place_within, same_first, same_second}
@@ -21,7 +21,7 @@ returns-then-len-lt-MOST-clause-room c =
     record {
       within = within;
       inside = λ e. place_bound blocks n row e c.requires.place within;
-      room = λ e. subst (λ (block : Block). length block.rows < 4096) (c.index.ensures ∙ get_or_default blocks n d e within) (omega (arith, c.len.ensures, c.if-len-lt-MOST.true));
+      room = λ e. subst (λ (block : Block). length block.rows < most_rows) (c.index.ensures ∙ get_or_default blocks n d e within) (omega (arith, c.len.ensures, c.if-len-lt-MOST.true));
     }
 
 pub cut-requires-clause-within : goal.cut-requires-clause-within

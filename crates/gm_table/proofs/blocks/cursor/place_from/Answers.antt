@@ -1,6 +1,5 @@
-use Rattle.std.proofs.Common.{ap, ◌∙◌}
+use Rattle.std.proofs.Common.{◌∙◌}
 use Rattle.gm_table.specs.Blocks.{rows_of, lists_of}
-use Rattle.gm_table.specs.Cursor.{rows_after}
 use Rattle.gm_table.proofs.Places.{after-from}
 use Rattle.gm_table.proofs.blocks.cursor.place_from.Goals as goal
 

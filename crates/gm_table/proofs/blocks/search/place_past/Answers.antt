@@ -2,7 +2,7 @@ use Rattle.std.proofs.Common.{◌≡◌, ◌-◌, ◌≤◌, length, get_or, sym
 use Rattle.gm_table.specs.Blocks.{pairs_of}
 use Rattle.gm_table.specs.Sorted.{IsRising}
 use Rattle.gm_table.proofs.BlockPlaces.{IsPlaceOf, Parts, first_place, later_place, block_rises}
-use Rattle.gm_table.proofs.blocks.search.place_of.Goals as goal
+use Rattle.gm_table.proofs.blocks.search.place_past.Goals as goal
 
 first : (c : goal.Then-begun-eq0) → IsPlaceOf c.args.key.now c.args.blocks.now 0 0
 first c = first_place c.args.key.now c.args.blocks.now c.requires.each (λ k d low up. c.count_begun-begun.ensures.others k d (omega (arith, c.if-begun-eq0.true)) up)
