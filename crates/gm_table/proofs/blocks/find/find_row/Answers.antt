@@ -5,7 +5,7 @@ use Rattle.std.specs.Cmp.Lexicographic.{slice_cmp}
 use Rattle.gm_table.specs.declared.row.Row.{Row}
 use Rattle.gm_table.specs.Blocks.{lists_of, pair_of, rows_at, rows_of, rows_until}
 use Rattle.gm_table.specs.Cursor.{rows_after, rows_below}
-use Rattle.gm_table.proofs.Keys.{same_bytes, same_key}
+use Rattle.gm_table.proofs.Keys.{same_key}
 use Rattle.gm_table.proofs.BlockChanges.{at_none, at_row, has_row}
 use Rattle.gm_table.proofs.BlockKeys.{gap_none, gap_some}
 use Rattle.gm_table.proofs.blocks.find.find_row.Goals as goal
@@ -39,12 +39,12 @@ returns-then-at-rows-clause-gap c =
     gap_none key all until from below after (c.ahead-at.ensures.end c.index-blocks-at.result (omega (arith, c.if-at-blocks.false))
     (subst (λ xs. length xs ≤ row) c.as_slice-rows.ensures c.if-at-rows.true))
 
-pub returns-then-eq-clause-there : goal.returns-then-eq-clause-there
-returns-then-eq-clause-there c =
+pub returns-then-is_eq-clause-there : goal.returns-then-is_eq-clause-there
+returns-then-is_eq-clause-there c =
     let key = c.args.key.now in
     let row = c.ahead-at.result.row in
     let r = c.index-rows-at.result in
-    let same : is_eq (slice_cmp nat_cmp key r.key) ≡ true = sym (same_bytes key r.key) ∙ grind (arith, common_steps) in
+    let same : is_eq (slice_cmp nat_cmp key r.key) ≡ true = grind (arith, common_steps) in
     has_row key c.args.blocks.now c.ahead-at.result.block row c.index-blocks-at.result r (omega (arith, c.if-at-blocks.false))
     (subst (λ xs. row < length xs) c.as_slice-rows.ensures c.if-at-rows.false)
     (subst (λ xs. r ≡ get_or xs row r) c.as_slice-rows.ensures c.index-rows-at.is)
@@ -64,7 +64,7 @@ returns-clause-gap c =
     let after : from ≡ rows_after key all = c.ahead-at.ensures.from ∙ c.place_of.ensures.from ∙ ap (λ k. rows_after k all) asked in
     let r = c.index-rows-at.result in
     let d = c.index-blocks-at.result in
-    let other : is_eq (slice_cmp nat_cmp key r.key) ≡ false = sym (same_bytes key r.key) ∙ grind (arith, common_steps) in
+    let other : is_eq (slice_cmp nat_cmp key r.key) ≡ false = grind (arith, common_steps) in
     let first = at_row c.args.blocks.now n row d r (omega (arith, c.if-at-blocks.false)) (subst (λ xs. row < length xs) c.as_slice-rows.ensures c.if-at-rows.false) in
     let is : r ≡ get_or (get_or c.args.blocks.now n d).rows row r = subst (λ xs. r ≡ get_or xs row r) c.as_slice-rows.ensures c.index-rows-at.is in
     gap_some key all until from (pair_of r) (rows_at n (suc row) c.args.blocks.now) c.requires.rising below after
