@@ -1,14 +1,11 @@
 -- The rows that a part of a plan reads: whose they are, that none is left out, and how many they are.
-use Rattle.std.proofs.Common.{◌≡◌, ◌<◌, ◌≤◌, ℕ, zero, suc, ◌+◌, Bool, true, false, true≢false, cond, ◌&&◌, ◌||◌, ◌⊎◌, inl, inr, ⊎_elim, List, [], ◌∷◌, ◌++◌, map, filter, length, count_by, Some, None, refl, sym, ap, subst, ◌∙◌, arith, length-append}
-use Rattle.std.specs.Prelude.{get_or, All, Result, ⊤, IfOk, OnOk}
+use Rattle.std.proofs.Common.{◌≡◌, ◌≤◌, ℕ, ◌+◌, Bool, true, false, true≢false, cond, ◌&&◌, ◌||◌, ◌⊎◌, inl, inr, List, [], ◌∷◌, ◌++◌, filter, length, count_by, Some, refl, sym, ap, subst, ◌∙◌, arith, length-append}
+use Rattle.std.specs.Prelude.{All}
 use Rattle.std.proofs.lemmas.List.Elements.{All-from_recursion}
-use Rattle.std.specs.List.{list_any, AllByRecursion}
-use Rattle.std.proofs.lemmas.List.Sums.{length-filter, count_by-le-length}
-use Rattle.std.specs.Ordering.{nat_cmp}
-use Rattle.std.specs.Cmp.Lexicographic.{slice_cmp}
+use Rattle.std.specs.List.{AllByRecursion}
+use Rattle.std.proofs.lemmas.List.Sums.{length-filter}
 use Rattle.std.specs.FinMap as features
 use Rattle.std.specs.FinMap.{entries_sorted, get-entries}
-use Rattle.gm_base.specs.declared.NoMemory.{NoMemory}
 use Rattle.gm_base.specs.Spans.{Span}
 use Rattle.gm_table.specs.Apart.{times_inside, AreApart}
 use Rattle.gm_table.specs.Sorted.{Rows, RowMap, at_key, is_within, between}
@@ -27,23 +24,19 @@ use Rattle.gm_filter.specs.Truth.{is_true}
 use Rattle.gm_keys.specs.Key.{key_of}
 use Rattle.gm_bounds.specs.Applicability.{does_apply, can_serve}
 use Rattle.gm_engine_rows.specs.State.{State, IsState, type_at, feature_at}
-use Rattle.gm_engine_rows.specs.Rows.{IsRow, row_map, rows_of}
+use Rattle.gm_engine_rows.specs.Rows.{row_map, rows_of}
 use Rattle.gm_bounds.specs.declared.ranges.KeyRanges.{KeyRanges}
 use Rattle.gm_plan.specs.KeyRanges.{key_ranges}
 use Rattle.gm_plan.specs.Spans.{spans_of}
 use Rattle.gm_plan.specs.Inside.{is_inside, read_spans, IsRead}
-use Rattle.gm_scan.specs.FoundRows.{FoundRow}
 use Rattle.gm_scan.specs.Held.{AreBytesOf, HasFeature, Hold, matching}
 use Rattle.gm_strategy.specs.Chosen.{Chosen, IsServed}
-use Rattle.gm_program.specs.declared.execute.rows.Keeping.{Keeping}
-use Rattle.gm_program.specs.Finding.{IsAmong, IsTrueOf, Finds}
-use Rattle.gm_program.specs.Keeping.{Adds, kept_of}
+use Rattle.gm_program.specs.Finding.{IsAmong, Finds}
 use Rattle.gm_program.specs.Question.{rows_read}
 use Rattle.gm_program.specs.Store.{IsTypeOf}
-use Rattle.gm_program.proofs.Bound.{Found, Stand, same_some, if_ok}
-use Rattle.gm_program.proofs.Collected.{is_key, same_key, true_or_false}
+use Rattle.gm_program.proofs.Bound.{Found, Stand, same_some}
+use Rattle.gm_program.proofs.Collected.{is_key, same_key}
 use Rattle.gm_program.proofs.Answering.{each_found}
-use Rattle.gm_program.proofs.Planned.{on_ok}
 
 -- the laws
 abbrev pub At : Type 0
@@ -297,13 +290,13 @@ length_in (span ∷ spans) rows apart =
     let few : 1 + times_inside row.0 spans ≤ 1 = subst (λ (b : Bool). cond b 1 0 + times_inside row.0 spans ≤ 1) within (apart row.0) in
     omega (arith, few, times_inside-inside row.0 spans later))) rows)
 
--- ---- a scan of a part
+-- ---- the spans of a part
 abbrev pub HoldSome : Type 0
 HoldSome = (t : Specification) (rows : Rows) → All (λ row. HasFeature t row.1) rows → (held : List Feature) × Hold t rows held
 
-pub scan_has_features : At → Found → (s : State) (t : Specification) (of_index : OfIndex t) (part : Chosen) (target : ℕ) (rows : Rows) (spans : List Span) → IsTypeOf s t rows → IsServed t part
+pub are_of_features : At → Found → (s : State) (t : Specification) (of_index : OfIndex t) (part : Chosen) (target : ℕ) (rows : Rows) (spans : List Span) → IsTypeOf s t rows → IsServed t part
     → spans ≡ read_spans t part.index part.wanted target → All (λ row. HasFeature t row.1) (rows_in spans rows)
-scan_has_features at found s t of_index part target rows spans own served is =
+are_of_features at found s t of_index part target rows spans own served is =
     let read = read_spans t part.index part.wanted target in
     let there : All (λ row. HasFeature t row.1) (rows_in read (rows_of s)) =
     All-from_recursion (λ row. HasFeature t row.1) (rows_in read (rows_of s)) (rows_have_features s t part.index (rows_in read (rows_of s))
@@ -316,27 +309,12 @@ pub part_held : At → Found → Stand → KeysInside → SameBytes → HoldSome
     → (held : List Feature) × Hold t (rows_in spans rows) held × Finds s t.number part.wanted (matching part.wanted held)
 part_held at found stand inside same some s t of_index part target rows spans own served least is =
     let read = read_spans t part.index part.wanted target in
-    let held = some t (rows_in spans rows) (scan_has_features at found s t of_index part target rows spans own served is) in
+    let held = some t (rows_in spans rows) (are_of_features at found s t of_index part target rows spans own served is) in
     let there : Hold t (rows_in read (rows_of s)) held.0 =
     subst (λ (ss : List Span). Hold t (rows_in ss (rows_of s)) held.0) is (subst (λ (rs : Rows). Hold t (rows_in spans rs) held.0) own.same_rows held.1) in
     (held.0, held.1, part_finds at found stand inside same s t of_index part.index part.wanted target held.0 own.state own.typed served.suits served.applies least there)
 
-pub part_found : At → Found → Stand → KeysInside → SameBytes → HoldSome → (s : State) (t : Specification) (of_index : OfIndex t) (part : Chosen) (target : ℕ) (rows : Rows) (spans : List Span) (result : Result (List Feature) NoMemory)
-    → IsTypeOf s t rows → IsServed t part → 1 ≤ target → spans ≡ read_spans t part.index part.wanted target
-    → ((held : List Feature) → Hold t (rows_in spans rows) held → IfOk result (λ fs. fs ≡ matching part.wanted held)) → IfOk result (Finds s t.number part.wanted)
-part_found at found stand inside same some s t of_index part target rows spans result own served least is scanned =
-    let held = part_held at found stand inside same some s t of_index part target rows spans own served least is in
-    if_ok result (λ fs matches. subst (Finds s t.number part.wanted) (sym matches) held.2) (scanned held.0 held.1)
-
-pub part_added : At → Found → Stand → KeysInside → SameBytes → HoldSome → (s : State) (t : Specification) (of_index : OfIndex t) (part : Chosen) (target : ℕ) (rows : Rows) (spans : List Span)
-    (keeping : Keeping) (before after : List FoundRow) (result : Result ⊤ NoMemory) → IsTypeOf s t rows → IsServed t part → 1 ≤ target → spans ≡ read_spans t part.index part.wanted target
-    → ((held : List Feature) → Hold t (rows_in spans rows) held → OnOk result (after ≡ before ++ map (kept_of keeping) (matching part.wanted held)))
-    → OnOk result (Adds s t.number part.wanted keeping before after)
-part_added at found stand inside same some s t of_index part target rows spans keeping before after result own served least is scanned =
-    let held = part_held at found stand inside same some s t of_index part target rows spans own served least is in
-    on_ok result (scanned held.0 held.1) (λ are. record { features = matching part.wanted held.0; finds = held.2; are = are })
-
-pub part_counted : (s : State) (t : Specification) (part : Chosen) (target : ℕ) (rows : Rows) (spans : List Span) → IsTypeOf s t rows → spans ≡ read_spans t part.index part.wanted target
+pub length_read : (s : State) (t : Specification) (part : Chosen) (target : ℕ) (rows : Rows) (spans : List Span) → IsTypeOf s t rows → spans ≡ read_spans t part.index part.wanted target
     → AreApart (read_spans t part.index part.wanted target) → length (rows_in spans rows) ≡ rows_read t target (rows_of s) part
-part_counted s t part target rows spans own is apart =
+length_read s t part target rows spans own is apart =
     (λ i. length (rows_in (is i) (own.same_rows i))) ∙ length_in (read_spans t part.index part.wanted target) (rows_of s) apart

@@ -14,13 +14,13 @@ use Rattle.gm_feature.specs.declared.value.Value.{Value}
 use Rattle.gm_feature.specs.Spelling.{feature_bytes}
 use Rattle.gm_filter.specs.Tree.{Tree}
 use Rattle.gm_filter.specs.Truth.{is_true}
-use Rattle.gm_scan.specs.FoundRows.{FoundRow}
+use Rattle.gm_scan.specs.declared.found_rows.Keeping.{Keeping}
+use Rattle.gm_scan.specs.declared.found_rows.Keeping.TheVariants.{Rows, Ids}
+use Rattle.gm_scan.specs.FoundRows.{FoundRow, kept_of}
 use Rattle.gm_engine_rows.specs.State.{State, feature_at}
-use Rattle.gm_program.specs.declared.execute.rows.Keeping.{Keeping}
-use Rattle.gm_program.specs.declared.execute.rows.Keeping.TheVariants.{Rows, Ids}
 use Rattle.gm_program.specs.Collecting.{Collected, collected, feature_of, Counts}
 use Rattle.gm_program.specs.InOrder.{AreBound, in_order, put_all}
-use Rattle.gm_program.specs.Keeping.{Adds, Keeps, kept_of}
+use Rattle.gm_program.specs.Kept.{Adds, AreKept}
 use Rattle.gm_program.specs.Question.{answer}
 use Rattle.gm_program.proofs.Answering.{answer_is, each_as, length-map}
 use Rattle.gm_program.proofs.Collected.{AreNamed, collects_none, collects_more}
@@ -35,17 +35,17 @@ each_both : {A : Type 0} (P : A → Type 0) (one other : List A) → AllByRecurs
 each_both P [] other each each' = each'
 each_both P (x ∷ one) other each each' = (each.0, each_both P one other each.1 each')
 
-pub keeps_none : (s : State) (n : ℕ) (keeping : Keeping) (rows : List FoundRow) → rows ≡ [] → Keeps s n [] keeping rows
-keeps_none s n keeping rows none = record { features = []; are = none; bound = tt; collects = collects_none s n [] refl }
+pub kept_none : (s : State) (n : ℕ) (keeping : Keeping) (rows : List FoundRow) → rows ≡ [] → AreKept s n [] keeping rows
+kept_none s n keeping rows none = record { features = []; are = none; bound = tt; collects = collects_none s n [] refl }
 
-pub keeps_more : (s : State) (n : ℕ) (tests : List Tree) (test : Tree) (keeping : Keeping) (before after : List FoundRow) → AreNamed s n → Adds s n test keeping before after
-    → Keeps s n tests keeping before → Keeps s n (tests ++ test ∷ []) keeping after
-keeps_more s n tests test keeping before after are_named adds keeps = record {
-  features = keeps.features ++ adds.features;
-  are = adds.are ∙ ap (λ rows. rows ++ map (kept_of keeping) adds.features) keeps.are ∙ sym (map-append (kept_of keeping) keeps.features adds.features);
-  bound = each_both (λ f. feature_at n f.id s ≡ Some f) keeps.features adds.features keeps.bound (each_as adds.features (λ f true_of. true_of.held) adds.finds.sound);
-  collects = collects_more s n tests test adds.features (collected [] keeps.features) (collected [] (keeps.features ++ adds.features)) are_named adds.finds keeps.collects
-      (collected-append [] keeps.features adds.features);
+pub kept_more : (s : State) (n : ℕ) (tests : List Tree) (test : Tree) (keeping : Keeping) (before after : List FoundRow) → AreNamed s n → Adds s n test keeping before after
+    → AreKept s n tests keeping before → AreKept s n (tests ++ test ∷ []) keeping after
+kept_more s n tests test keeping before after are_named adds kept = record {
+  features = kept.features ++ adds.features;
+  are = adds.are ∙ ap (λ rows. rows ++ map (kept_of keeping) adds.features) kept.are ∙ sym (map-append (kept_of keeping) kept.features adds.features);
+  bound = each_both (λ f. feature_at n f.id s ≡ Some f) kept.features adds.features kept.bound (each_as adds.features (λ f true_of. true_of.held) adds.finds.sound);
+  collects = collects_more s n tests test adds.features (collected [] kept.features) (collected [] (kept.features ++ adds.features)) are_named adds.finds kept.collects
+      (collected-append [] kept.features adds.features);
 }
 
 -- ---- the bytes of a row follow from its identifier
@@ -63,11 +63,11 @@ each_bound s n keeping [] bound = tt
 each_bound s n keeping (f ∷ fs) bound =
     (sym (ap (λ (id : List ℕ). bytes_in keeping (feature_at n id s)) (named_so keeping f) ∙ ap (bytes_in keeping) bound.0), each_bound s n keeping fs bound.1)
 
-pub keeps_bound : (s : State) (n : ℕ) (tests : List Tree) (keeping : Keeping) (rows : List FoundRow) → Keeps s n tests keeping rows → AreBound rows
-keeps_bound s n tests keeping rows keeps =
+pub kept_bound : (s : State) (n : ℕ) (tests : List Tree) (keeping : Keeping) (rows : List FoundRow) → AreKept s n tests keeping rows → AreBound rows
+kept_bound s n tests keeping rows kept =
     let P = λ (row : FoundRow). row.1 ≡ bytes_in keeping (feature_at n row.0 s) in
-    let all = map (kept_of keeping) keeps.features in
-    (λ id. bytes_in keeping (feature_at n id s), subst (All P) (sym keeps.are) (All-from_recursion P all (each_bound s n keeping keeps.features keeps.bound)))
+    let all = map (kept_of keeping) kept.features in
+    (λ id. bytes_in keeping (feature_at n id s), subst (All P) (sym kept.are) (All-from_recursion P all (each_bound s n keeping kept.features kept.bound)))
 
 -- ---- in order the rows are those of what is collected
 abbrev row_by : (Feature → List ℕ) → Feature → FoundRow
@@ -103,16 +103,16 @@ as_features keeping [] = refl
 as_features keeping (e ∷ es) = ap (λ rows. kept_of keeping (feature_of e) ∷ rows) (as_features keeping es)
 
 -- and so those of the answer
-pub kept_in_order : (s : State) (n : ℕ) (tests : List Tree) (wanted : Tree) (keeping : Keeping) (rows : List FoundRow) → AreNamed s n → Keeps s n tests keeping rows
+pub kept_in_order : (s : State) (n : ℕ) (tests : List Tree) (wanted : Tree) (keeping : Keeping) (rows : List FoundRow) → AreNamed s n → AreKept s n tests keeping rows
     → ((f : Feature) → is_true f wanted ≡ list_any (λ t. is_true f t) tests) → in_order rows ≡ map (kept_of keeping) (answer n wanted s)
-kept_in_order s n tests wanted keeping rows are_named keeps same =
-    ap in_order keeps.are ∙ put_kept keeping keeps.features ∙ as_features keeping (collected [] keeps.features)
-    ∙ ap (map (kept_of keeping)) (answer_is s n tests wanted (collected [] keeps.features) are_named keeps.collects same)
+kept_in_order s n tests wanted keeping rows are_named kept same =
+    ap in_order kept.are ∙ put_kept keeping kept.features ∙ as_features keeping (collected [] kept.features)
+    ∙ ap (map (kept_of keeping)) (answer_is s n tests wanted (collected [] kept.features) are_named kept.collects same)
 
 -- and as many
-pub kept_counts : (s : State) (n : ℕ) (tests : List Tree) (keeping : Keeping) (rows : List FoundRow) (count : ℕ) → Keeps s n tests keeping rows → count ≡ length (in_order rows) → Counts s n tests count
-kept_counts s n tests keeping rows count keeps is = record {
-  held = collected [] keeps.features;
-  collects = keeps.collects;
-  are = is ∙ ap (λ (rs : List FoundRow). length (in_order rs)) keeps.are ∙ ap length (put_kept keeping keeps.features) ∙ length-map (λ e. kept_of keeping (feature_of e)) (collected [] keeps.features);
+pub kept_counts : (s : State) (n : ℕ) (tests : List Tree) (keeping : Keeping) (rows : List FoundRow) (count : ℕ) → AreKept s n tests keeping rows → count ≡ length (in_order rows) → Counts s n tests count
+kept_counts s n tests keeping rows count kept is = record {
+  held = collected [] kept.features;
+  collects = kept.collects;
+  are = is ∙ ap (λ (rs : List FoundRow). length (in_order rs)) kept.are ∙ ap length (put_kept keeping kept.features) ∙ length-map (λ e. kept_of keeping (feature_of e)) (collected [] kept.features);
 }

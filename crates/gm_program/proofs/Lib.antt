@@ -21,6 +21,7 @@ pub mod Planned
 pub mod Printing
 pub mod Queried
 pub mod Questions
+pub mod Spans
 pub mod Values
 pub mod StateLemmas
 pub mod Streaming

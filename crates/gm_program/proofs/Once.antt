@@ -1,14 +1,11 @@
 -- A part finds each feature once.
-use Rattle.std.proofs.Common.{◌≡◌, ◌≤◌, ◌<◌, ℕ, zero, suc, ◌+◌, Bool, true, false, true≢false, cond, ◌&&◌, T, ◌⊎◌, inl, inr, ⊎_elim, List, [], ◌∷◌, ◌++◌, filter, length, Option, Some, None, refl, sym, ap, subst, ◌∙◌, arith}
-use Rattle.std.specs.Prelude.{is_some, if◌then◌else◌, Result, IfOk}
+use Rattle.std.proofs.Common.{◌≡◌, ◌≤◌, ℕ, ◌+◌, Bool, true, false, cond, T, ◌⊎◌, ⊎_elim, List, [], ◌∷◌, ◌++◌, length, Option, Some, None, refl, sym, ap, subst, ◌∙◌, arith}
+use Rattle.std.specs.Prelude.{is_some, if◌then◌else◌}
 use Rattle.std.specs.List.{AllByRecursion}
 use Rattle.std.specs.Ordering.{nat_cmp}
 use Rattle.std.specs.Cmp.Lexicographic.{slice_cmp, nat_list_cmp_total}
-use Rattle.std.specs.FinMap as map_of
 use Rattle.std.specs.FinMap.{find, put, is_sorted, entries_sorted}
 use Rattle.std.specs.FinMap.Entries.{below_all, find-put, is_sorted-put, length-put}
-use Rattle.std.specs.BTreeMap.{insert_entry}
-use Rattle.gm_base.specs.declared.NoMemory.{NoMemory}
 use Rattle.gm_base.specs.Spans.{Span}
 use Rattle.gm_table.specs.Apart.{times_inside, AreApart}
 use Rattle.gm_table.specs.Sorted.{Rows, is_within, between}
@@ -20,17 +17,12 @@ use Rattle.gm_filter.specs.Tree.{Tree}
 use Rattle.gm_filter.specs.Truth.{is_true}
 use Rattle.gm_keys.specs.Key.{key_of}
 use Rattle.gm_scan.specs.Held.{Hold, matching}
-use Rattle.gm_plan.specs.Inside.{read_spans}
 use Rattle.gm_engine_rows.specs.State.{State, feature_at}
 use Rattle.gm_engine_rows.specs.Rows.{row_map, rows_of}
-use Rattle.gm_strategy.specs.Chosen.{Chosen, IsServed}
-use Rattle.gm_program.specs.Collecting.{Collected, collected, Counts}
-use Rattle.gm_program.specs.Store.{IsTypeOf}
+use Rattle.gm_program.specs.Collecting.{Collected, collected}
 use Rattle.gm_program.proofs.Answering.{less_not_key}
-use Rattle.gm_program.proofs.Bound.{Found, Stand, if_ok}
-use Rattle.gm_program.proofs.Collected.{is_key, same_key, key_itself, true_or_false, both_true, insert_put, collects_none, collects_more}
-use Rattle.gm_program.proofs.Inside.{At, KeysInside, SameBytes, HoldSome, OfIndex, IsRowOfType, index_applies, rows_are_of_type, part_held}
-use Rattle.gm_program.proofs.Planned.{are_named}
+use Rattle.gm_program.proofs.Collected.{is_key, same_key, key_itself, true_or_false, both_true, insert_put}
+use Rattle.gm_program.proofs.Inside.{SameBytes, IsRowOfType}
 
 -- how many of the features have the identifier, and how many of the rows the key
 abbrev pub times : List ℕ → List Feature → ℕ
@@ -197,21 +189,3 @@ found_once same s t kind spans test held apart each holds = λ id.
 -- and so as many are collected as are found
 pub collected_once : (fs : List Feature) → AreOnce fs → length (collected [] fs) ≡ length fs
 collected_once fs once = let longer : length (collected [] fs) ≡ 0 + length fs = collected_length [] fs tt once (λ id some. refl) in omega (arith, longer)
-
--- ---- a count of a part
-pub part_counts : At → Found → Stand → KeysInside → SameBytes → HoldSome → (s : State) (t : Specification) (of_index : OfIndex t) (part : Chosen) (target : ℕ) (rows : Rows) (spans : List Span) (result : Result ℕ NoMemory)
-    → IsTypeOf s t rows → IsServed t part → 1 ≤ target → spans ≡ read_spans t part.index part.wanted target → AreApart (read_spans t part.index part.wanted target)
-    → ((held : List Feature) → Hold t (rows_in spans rows) held → IfOk result (λ count. count ≡ length (matching part.wanted held))) → IfOk result (Counts s t.number (part.wanted ∷ []))
-part_counts at found stand inside same some s t of_index part target rows spans result own served least is apart counted =
-    let held = part_held at found stand inside same some s t of_index part target rows spans own served least is in
-    let read = read_spans t part.index part.wanted target in
-    let fs = matching part.wanted held.0 in
-    let there : Hold t (rows_in read (rows_of s)) held.0 =
-    subst (λ (ss : List Span). Hold t (rows_in ss (rows_of s)) held.0) is (subst (λ (rs : Rows). Hold t (rows_in spans rs) held.0) own.same_rows held.1) in
-    let once : AreOnce fs = found_once same s t part.index read part.wanted held.0 apart
-    (rows_are_of_type at found s t of_index part.index part.wanted target own.state own.typed (index_applies t part.index part.wanted served.applies)) there in
-    if_ok result (λ count are. record {
-      held = collected [] fs;
-      collects = collects_more s t.number [] part.wanted fs [] (collected [] fs) (are_named s t own.state own.typed) held.2 (collects_none s t.number [] refl) refl;
-      are = are ∙ sym (collected_once fs once);
-    }) (counted held.0 held.1)

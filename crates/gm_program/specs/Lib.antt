@@ -12,7 +12,8 @@ pub mod Running
 pub mod Statuses
 pub mod Collecting
 pub mod InOrder
-pub mod Keeping
+pub mod Kept
 pub mod Finding
+pub mod Spans
 pub mod Planning
 pub mod Matching

@@ -25,6 +25,7 @@ mod put;
 mod query;
 mod remove;
 mod rows;
+mod spans;
 
 use crate::setting::Setting;
 use crate::store::Store;

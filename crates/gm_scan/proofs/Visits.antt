@@ -6,19 +6,18 @@ use Rattle.gm_table.specs.Sorted.{Rows}
 use Rattle.gm_table.specs.Visit.{Handed}
 use Rattle.gm_types.specs.Specification.{Specification}
 use Rattle.gm_feature.specs.declared.feature.Feature.{Feature}
-use Rattle.gm_feature.specs.Spelling.{feature_bytes}
 use Rattle.gm_filter.specs.Tree.{Tree}
 use Rattle.gm_filter.specs.Truth.{is_true}
 use Rattle.gm_scan.specs.declared.counted.Counted.{Counted}
 use Rattle.gm_scan.specs.declared.found.Found.{Found}
-use Rattle.gm_scan.specs.declared.kept.Keeping.{Keeping}
+use Rattle.gm_scan.specs.declared.found_rows.Keeping.{Keeping}
+use Rattle.gm_scan.specs.declared.found_rows.Keeping.TheVariants as keeping_of
 use Rattle.gm_scan.specs.declared.kept.Kept.{Kept}
 use Rattle.gm_scan.specs.Counted as counting
 use Rattle.gm_scan.specs.Found.{Takes, takes_row}
-use Rattle.gm_scan.specs.FoundRows.{FoundRow}
+use Rattle.gm_scan.specs.FoundRows.{FoundRow, kept_of}
 use Rattle.gm_scan.specs.Held.{HasFeature, Hold, matching}
 use Rattle.gm_scan.specs.Kept as keeping_rows
-use Rattle.gm_scan.specs.Kept.{kept_bytes, kept_of}
 use Rattle.gm_scan.specs.Trial.{type_of, filter_of}
 use Rattle.gm_scan.proofs.Holding.{matching_cons}
 
@@ -72,12 +71,16 @@ pub kept_not : (keeping : Keeping) (t : Tree) (f : Feature) (rows : List FoundRo
     → rows ≡ rows ++ map (kept_of keeping) (matching t (f ∷ []))
 kept_not keeping t f rows b is fails = append_none rows ∙ ap (λ c. rows ++ map (kept_of keeping) (cond c (f ∷ []) [])) (sym fails ∙ is)
 
-pub kept_one : (keeping : Keeping) (t : Tree) (f : Feature) (rows after : List FoundRow) (id content bytes : List ℕ) (b : Bool) → b ≡ is_true f t → b ≡ true
-    → id ≡ f.id → content ≡ kept_bytes keeping bytes → bytes ≡ feature_bytes f → after ≡ rows ++ (id, content) ∷ []
+kept_id : (keeping : Keeping) (f : Feature) → f.id ≡ (kept_of keeping f).0
+kept_id keeping_of.Rows f = refl
+kept_id keeping_of.Ids f = refl
+
+pub kept_one : (keeping : Keeping) (t : Tree) (f : Feature) (rows after : List FoundRow) (id content : List ℕ) (b : Bool) → b ≡ is_true f t → b ≡ true
+    → id ≡ f.id → content ≡ (kept_of keeping f).1 → after ≡ rows ++ (id, content) ∷ []
     → after ≡ rows ++ map (kept_of keeping) (matching t (f ∷ []))
-kept_one keeping t f rows after id content bytes b is holds named kept same pushed =
-    let whole = kept ∙ ap (kept_bytes keeping) same in
-    pushed ∙ (λ i. rows ++ (named i, whole i) ∷ []) ∙ ap (λ c. rows ++ map (kept_of keeping) (cond c (f ∷ []) [])) (sym holds ∙ is)
+kept_one keeping t f rows after id content b is holds named kept pushed =
+    let whole = named ∙ kept_id keeping f in
+    pushed ∙ (λ i. rows ++ (whole i, kept i) ∷ []) ∙ ap (λ c. rows ++ map (kept_of keeping) (cond c (f ∷ []) [])) (sym holds ∙ is)
 
 kept_cons : (keeping : Keeping) (t : Tree) (f : Feature) (fs : List Feature)
     → map (kept_of keeping) (matching t (f ∷ [])) ++ map (kept_of keeping) (matching t fs) ≡ map (kept_of keeping) (matching t (f ∷ fs))

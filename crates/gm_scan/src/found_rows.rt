@@ -6,6 +6,16 @@ use gm_base::{NoMemory, SpanList};
 use std::alloc::Global;
 use std::marker::Model;
 
+/// What is kept of a feature that is found.
+#[derive(Clone, Copy, Debug)]
+pub enum Keeping {
+    /// Its identifier and its bytes.
+    Rows,
+
+    /// Its identifier, and no bytes.
+    Ids,
+}
+
 /// Pairs of the identifier of a feature and bytes, all in one buffer. Contracts see their list.
 #[derive(Debug, Drop)]
 pub struct FoundRows {

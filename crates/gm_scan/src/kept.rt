@@ -1,26 +1,18 @@
 // The rows that a scan has found, as they stand.
 ghost use Rattle.std.specs.Prelude.{◌≡◌};
+ghost use Rattle.gm_feature.specs.declared.feature.Feature.{Feature};
+ghost use Rattle.gm_feature.specs.Spelling.{feature_bytes};
+ghost use Rattle.gm_scan.specs.FoundRows.{kept_of};
 ghost use Rattle.gm_scan.specs.Held.{HasFeature};
-ghost use Rattle.gm_scan.specs.Kept as spec;
 ghost use Rattle.gm_scan.specs.Kept.{takes_row};
 ghost use Rattle.gm_scan.specs.Trial.{type_of};
 ghost use Rattle.std.proofs.Common.{subst, sym};
 
-use crate::FoundRows;
+use crate::found_rows::{FoundRows, Keeping};
 use crate::trial::Trial;
 use gm_base::NoMemory;
 use gm_table::Visit;
 use std::alloc::Global;
-
-/// What is kept of a row that matches.
-#[derive(Clone, Copy, Debug)]
-pub(crate) enum Keeping {
-    /// The identifier of the feature, and its bytes.
-    Rows,
-
-    /// The identifier alone.
-    Ids,
-}
 
 /// Keeps, in place of features, the rows that it is handed of whose features the filter is true.
 #[derive(Drop)]
@@ -73,8 +65,10 @@ impl<'a, 't> Visit for Kept<'a, 't> {
     }
 }
 
+// All bytes of a row, or none of them.
 fn kept_bytes(keeping: Keeping, bytes: &[u8]) -> &[u8]
-    ensures { result.now ≡ spec.kept_bytes keeping bytes.now }
+    ensures { (feature : Feature) → bytes.now ≡ feature_bytes feature
+        → result.now ≡ (kept_of keeping feature).1 }
 {
     match keeping {
         Keeping::Rows => bytes,

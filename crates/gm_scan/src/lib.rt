@@ -14,6 +14,6 @@ mod test;
 mod texts;
 mod trial;
 
-pub use found_rows::FoundRows;
+pub use found_rows::{FoundRows, Keeping};
 pub use laws::{ranges_apart_have_few_rows, rows_hold_features};
-pub use scan::{count_one, scan_ids, scan_one, scan_rows};
+pub use scan::{count_one, scan_kept, scan_one};

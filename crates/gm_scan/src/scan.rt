@@ -7,14 +7,13 @@ ghost use Rattle.gm_table.specs.Visit.{Handed};
 ghost use Rattle.gm_feature.specs.declared.feature.Feature.{Feature as AnyFeature};
 ghost use Rattle.gm_filter.specs.Suits.{Suits};
 ghost use Rattle.gm_filter.specs.Tree.{tree};
-ghost use Rattle.gm_scan.specs.FoundRows.{row_of, id_of};
+ghost use Rattle.gm_scan.specs.FoundRows.{kept_of};
 ghost use Rattle.gm_scan.specs.Held.{HasFeature, Hold, matching};
-ghost use Rattle.gm_scan.specs.Kept.{kept_of};
 
-use crate::FoundRows;
 use crate::counted::Counted;
 use crate::found::Found;
-use crate::kept::{Keeping, Kept};
+use crate::found_rows::{FoundRows, Keeping};
+use crate::kept::Kept;
 use crate::laws::ranges_apart_have_few_rows;
 use crate::trial::Trial;
 use gm_base::{NoMemory, SpanList};
@@ -86,67 +85,9 @@ pub fn count_one<'a, S: Sorted>(
     Ok(counted.matched())
 }
 
-/// Appends the rows that `scan_one` would find, as they stand: the identifier of each feature, and
-/// its bytes. It makes no feature.
-pub fn scan_rows<'a, S: Sorted>(
-    alloc: Global,
-    of: &'a FeatureType,
-    table: &S,
-    ranges: &SpanList,
-    filter: &'a Filter,
-    found: &mut FoundRows,
-    tally: &mut S::Tally,
-) -> Result<(), NoMemory>
-    requires suits { Suits of.now (tree filter.now) }
-    requires features { All (λ row. HasFeature of.now row.1)
-        (rows_in ranges.now (S.rows table.now)) }
-    ensures found { (held : List AnyFeature)
-        → Hold of.now (rows_in ranges.now (S.rows table.now)) held
-        → OnOk result (found.new ≡ found.old ++ map row_of (matching (tree filter.now) held)) }
-    ensures tally { OnOk result (S.Tally.number tally.new ≡ capped_sum (S.Tally.number tally.old)
-        (length (rows_in ranges.now (S.rows table.now)))) }
-    ensures stopped { OnErr result ((handed : ℕ)
-        × (handed ≤ length (rows_in ranges.now (S.rows table.now)))
-        × (S.Tally.number tally.new ≡ capped_sum (S.Tally.number tally.old) handed)) }
-{
-    keep(
-        alloc,
-        of,
-        table,
-        ranges,
-        filter,
-        Keeping::Rows,
-        found,
-        tally,
-    )
-}
-
-/// Appends the identifiers alone.
-pub fn scan_ids<'a, S: Sorted>(
-    alloc: Global,
-    of: &'a FeatureType,
-    table: &S,
-    ranges: &SpanList,
-    filter: &'a Filter,
-    found: &mut FoundRows,
-    tally: &mut S::Tally,
-) -> Result<(), NoMemory>
-    requires suits { Suits of.now (tree filter.now) }
-    requires features { All (λ row. HasFeature of.now row.1)
-        (rows_in ranges.now (S.rows table.now)) }
-    ensures found { (held : List AnyFeature)
-        → Hold of.now (rows_in ranges.now (S.rows table.now)) held
-        → OnOk result (found.new ≡ found.old ++ map id_of (matching (tree filter.now) held)) }
-    ensures tally { OnOk result (S.Tally.number tally.new ≡ capped_sum (S.Tally.number tally.old)
-        (length (rows_in ranges.now (S.rows table.now)))) }
-    ensures stopped { OnErr result ((handed : ℕ)
-        × (handed ≤ length (rows_in ranges.now (S.rows table.now)))
-        × (S.Tally.number tally.new ≡ capped_sum (S.Tally.number tally.old) handed)) }
-{
-    keep(alloc, of, table, ranges, filter, Keeping::Ids, found, tally)
-}
-
-fn keep<'a, S: Sorted>(
+/// Appends, for each feature that `scan_one` would find, in the same order, what is kept of it. No
+/// feature is made. Each row in the ranges raises the tally by one.
+pub fn scan_kept<'a, S: Sorted>(
     alloc: Global,
     of: &'a FeatureType,
     table: &S,

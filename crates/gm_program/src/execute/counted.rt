@@ -11,16 +11,13 @@ ghost use Rattle.gm_program.specs.Question.{rows_read, rows_examined};
 ghost use Rattle.gm_program.specs.Store.{IsTypeOf, HasType};
 
 use super::in_order::count_in_order;
-use super::parts::spans_of;
-use super::rows::{Keeping, read_rows};
+use super::rows::read_rows;
+use super::spans::spans_of;
 use gm_base::{Counter, NoMemory};
-use gm_engine_rows::rows_are_of_features;
-use gm_feature::bytes_tell_features_apart;
-use gm_plan::{keys_are_inside, keys_inside_are_of_the_index, spans_are_apart};
-use gm_scan::{count_one, rows_hold_features};
+use gm_scan::{Keeping, count_one};
 use gm_strategy::Part;
-use gm_table::{Sorted, rows_of_a_map};
-use gm_types::{FeatureType, types_hold_together};
+use gm_table::Sorted;
+use gm_types::FeatureType;
 use std::alloc::Global;
 
 /// How many features are found, and how many rows are examined for them.
@@ -107,15 +104,6 @@ fn count_part<B: Sorted>(
         ≡ capped_sum (B.Tally.number tally.old)
         (rows_read of.now target (rows_of s) (chosen_of part.now))) }
 {
-    keys_are_inside();
-    keys_inside_are_of_the_index();
-    spans_are_apart();
-    rows_are_of_features();
-    rows_hold_features();
-    rows_of_a_map();
-    bytes_tell_features_apart();
-    types_hold_together(of);
-    let _shards = of.shards();
     let spans = spans_of(alloc, of, part, target)?;
     count_one(alloc, of, table, &spans, &part.filter, tally)
 }

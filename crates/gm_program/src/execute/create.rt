@@ -27,6 +27,7 @@ pub(super) fn create(
     a_new_type_has_no_rows();
     let name = of.name().copy(alloc)?;
     types.push(of)?;
+    // The types are numbered by their places, and their names differ.
     let _types = types.as_slice();
     Ok(Some(Reply::Created(name)))
 }

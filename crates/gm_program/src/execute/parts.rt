@@ -4,7 +4,6 @@ ghost use Rattle.gm_base.specs.Counter.{capped_sum};
 ghost use Rattle.gm_engine_rows.specs.State.{State};
 ghost use Rattle.gm_engine_rows.specs.Rows.{rows_of};
 ghost use Rattle.gm_filter.specs.Tree.{tree};
-ghost use Rattle.gm_plan.specs.Inside.{read_spans};
 ghost use Rattle.gm_strategy.specs.Chosen.{IsServed, chosen_of};
 ghost use Rattle.gm_program.specs.Collecting.{Collects};
 ghost use Rattle.gm_program.specs.Finding.{Finds, tests_of};
@@ -12,16 +11,13 @@ ghost use Rattle.gm_program.specs.Question.{rows_read, rows_examined};
 ghost use Rattle.gm_program.specs.Store.{IsTypeOf, HasType};
 
 use super::found::Found;
-use gm_base::{Counter, NoMemory, SpanList};
-use gm_engine_rows::rows_are_of_features;
-use gm_feature::{FeatureList, bytes_tell_features_apart};
-use gm_plan::{
-    byte_ranges, keys_are_inside, keys_inside_are_of_the_index, ranges, spans_are_apart,
-};
-use gm_scan::{rows_hold_features, scan_one};
+use super::spans::spans_of;
+use gm_base::{Counter, NoMemory};
+use gm_feature::FeatureList;
+use gm_scan::scan_one;
 use gm_strategy::Part;
-use gm_table::{Sorted, rows_of_a_map};
-use gm_types::{FeatureType, types_hold_together};
+use gm_table::Sorted;
+use gm_types::FeatureType;
 use std::alloc::Global;
 
 /// The features that the parts of a plan find, and how many rows are examined for them.
@@ -107,32 +103,6 @@ fn read_part<B: Sorted>(
         ≡ capped_sum (B.Tally.number tally.old)
         (rows_read of.now target (rows_of s) (chosen_of part.now))) }
 {
-    keys_are_inside();
-    keys_inside_are_of_the_index();
-    spans_are_apart();
-    rows_are_of_features();
-    rows_hold_features();
-    rows_of_a_map();
-    bytes_tell_features_apart();
-    types_hold_together(of);
-    let _shards = of.shards();
     let spans = spans_of(alloc, of, part, target)?;
     scan_one(alloc, of, table, &spans, &part.filter, tally)
-}
-
-/// The spans of keys that a part reads.
-pub(super) fn spans_of(
-    alloc: Global,
-    of: &FeatureType,
-    part: &Part,
-    target: u32,
-) -> Result<SpanList, NoMemory>
-    requires served { IsServed of.now (chosen_of part.now) }
-    requires least { 1 ≤ target }
-    requires most { target ≤ 10000 }
-    ensures { IfOk result (λ spans. spans
-        ≡ read_spans of.now part.now.kind (tree part.now.filter) target) }
-{
-    let of_ranges = ranges(alloc, of, part.kind, &part.filter, target)?;
-    byte_ranges(alloc, of, part.kind, &of_ranges)
 }

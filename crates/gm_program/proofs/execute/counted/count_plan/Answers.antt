@@ -1,11 +1,11 @@
 use Rattle.std.proofs.Common.{◌≡◌, ◌∙◌, map, length, sym, ap, arith}
 use Rattle.gm_engine_rows.specs.Rows.{rows_of}
+use Rattle.gm_scan.specs.declared.found_rows.Keeping.TheVariants as keeping
 use Rattle.gm_strategy.specs.Chosen.{chosen_of}
-use Rattle.gm_program.specs.declared.execute.rows.Keeping.TheVariants as keeping
 use Rattle.gm_program.specs.Finding.{tests_of}
 use Rattle.gm_program.specs.Question.{rows_examined}
 use Rattle.gm_program.proofs.Bound.{if_ok}
-use Rattle.gm_program.proofs.Kept.{keeps_bound, kept_counts}
+use Rattle.gm_program.proofs.Kept.{kept_bound, kept_counts}
 use Rattle.gm_program.proofs.Parts.{alone, examined_alone, served_at}
 use Rattle.gm_program.proofs.execute.counted.count_plan.Goals as goal
 
@@ -25,7 +25,7 @@ returns-then-parts-eq1-clause-examined g c = λ s own.
 pub count_in_order-requires : goal.count_in_order-requires
 count_in_order-requires g c =
     let s = c.requires.typed.0 in
-    keeps_bound s c.args.of.now.number (tests_of (map chosen_of c.args.parts.now)) keeping.Ids c.in_ok-read.read.rows (c.in_ok-read.ensures.found s c.requires.typed.1)
+    kept_bound s c.args.of.now.number (tests_of (map chosen_of c.args.parts.now)) keeping.Ids c.in_ok-read.read.rows (c.in_ok-read.ensures.found s c.requires.typed.1)
 
 pub returns-clause-matched : goal.returns-clause-matched
 returns-clause-matched g c = λ s own.

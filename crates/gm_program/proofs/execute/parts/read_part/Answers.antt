@@ -1,31 +1,20 @@
-use Rattle.std.proofs.Common.{◌≡◌, ◌∙◌, length, sym, ap, arith}
+use Rattle.std.proofs.Common.{◌∙◌, ap, sym, subst}
 use Rattle.gm_base.specs.Counter.{capped_sum}
 use Rattle.gm_filter.specs.Tree.{tree}
-use Rattle.gm_strategy.specs.Chosen.{chosen_of}
-use Rattle.gm_program.proofs.Inside.{of_index_from, scan_has_features, part_found, part_counted}
+use Rattle.gm_program.specs.Finding.{Finds}
+use Rattle.gm_program.proofs.Bound.{if_ok}
 use Rattle.gm_program.proofs.Planned.{on_ok}
 use Rattle.gm_program.proofs.execute.parts.read_part.Goals as goal
 
 pub scan_one-requires-clause-features : goal.scan_one-requires-clause-features
-scan_one-requires-clause-features g c κs within =
-    let t = c.args.of.now in
-    let part = c.args.part.now in
-    scan_has_features c.rows_of_a_map.ensures.at c.rows_are_of_features.ensures.found c.requires.typed.0 t (of_index_from c.keys_inside_are_of_the_index.ensures t (omega (arith, c.shards-shards.ensures.value, c.shards-shards.ensures.few))) (chosen_of part) c.args.target
-    (g.B.Sorted.rows c.args.table.now) c.in_ok-spans.spans c.requires.typed.1 c.requires.served c.in_ok-spans.ensures
+scan_one-requires-clause-features g c κs within = (c.in_ok-spans.ensures c.requires.typed.0 (g.B.Sorted.rows c.args.table.now) c.requires.typed.1).of_type
 
 pub returns-clause-found : goal.returns-clause-found
 returns-clause-found g c = λ s own.
-    let t = c.args.of.now in
-    let part = c.args.part.now in
-    part_found c.rows_of_a_map.ensures.at c.rows_are_of_features.ensures.found c.rows_are_of_features.ensures.all
-    (λ u kind w target f typed. c.keys_are_inside.ensures kind u w target f (c.types_hold_together.ensures.law u typed)) c.bytes_tell_features_apart.ensures c.rows_hold_features.ensures.some s t (of_index_from c.keys_inside_are_of_the_index.ensures t (omega (arith, c.shards-shards.ensures.value, c.shards-shards.ensures.few))) (chosen_of part) c.args.target
-    (g.B.Sorted.rows c.args.table.now) c.in_ok-spans.spans c.scan_one.result own c.requires.served c.requires.least c.in_ok-spans.ensures c.scan_one.ensures.found
+    let read = c.in_ok-spans.ensures s (g.B.Sorted.rows c.args.table.now) own in
+    if_ok c.scan_one.result (λ fs are. subst (Finds s c.args.of.now.number (tree c.args.part.now.filter)) (sym are) read.finds) (c.scan_one.ensures.found read.features read.held)
 
 pub returns-clause-tally : goal.returns-clause-tally
 returns-clause-tally g c = λ s own.
-    let t = c.args.of.now in
-    let part = c.args.part.now in
-    let before = g.B.Tally.Counter.number c.args.tally.now in
-    on_ok c.scan_one.result c.scan_one.ensures.tally (λ rose. rose ∙ ap (capped_sum before)
-    (part_counted s t (chosen_of part) c.args.target (g.B.Sorted.rows c.args.table.now) c.in_ok-spans.spans own c.in_ok-spans.ensures
-    (c.spans_are_apart.ensures t part.kind (tree part.filter) c.args.target c.requires.least)))
+    let read = c.in_ok-spans.ensures s (g.B.Sorted.rows c.args.table.now) own in
+    on_ok c.scan_one.result c.scan_one.ensures.tally (λ rose. rose ∙ ap (capped_sum (g.B.Tally.Counter.number c.args.tally.now)) read.examined)

@@ -3,19 +3,19 @@ use Rattle.std.specs.Prelude.{All}
 use Rattle.gm_filter.specs.Suits.{Suits}
 use Rattle.gm_engine_rows.specs.State.{type_at}
 use Rattle.gm_script.specs.Order.{asked_by}
+use Rattle.gm_scan.specs.declared.found_rows.Keeping.TheVariants as keeping
 use Rattle.gm_strategy.specs.Chosen.{IsServed, chosen_of}
 use Rattle.gm_program.specs.declared.execute.plan.Planned.{Planned}
 use Rattle.gm_program.specs.Planning.{IsPlanned}
-use Rattle.gm_program.specs.declared.execute.rows.Keeping.TheVariants as keeping
 use Rattle.gm_program.specs.Finding.{tests_of}
-use Rattle.gm_program.specs.Keeping.{Keeps}
+use Rattle.gm_program.specs.Kept.{AreKept}
 use Rattle.gm_program.specs.Question.{answer, rows_examined}
 use Rattle.gm_program.specs.Step.{found}
 use Rattle.gm_program.specs.Store.{HasType, IsTypeOf}
 use Rattle.gm_base.specs.Counter.{capped_sum}
 use Rattle.gm_engine_rows.specs.Rows.{rows_of}
 use Rattle.gm_program.proofs.Planned.{type_of}
-use Rattle.gm_program.proofs.Kept.{keeps_bound}
+use Rattle.gm_program.proofs.Kept.{kept_bound}
 use Rattle.gm_program.proofs.Queried.{query_reply, rows_are}
 use Rattle.gm_program.proofs.Questions.{asked_type, type_known, has_type, refused_reply}
 use Rattle.gm_program.proofs.execute.query.query.Goals as goal
@@ -64,7 +64,7 @@ print_found-requires-clause-bound g c =
     let holds = c.requires.kept.1 in
     let own = subst (λ u. IsTypeOf s u rows) (sym same) (type_of s q.of c.args.store.now.types rows holds (type_known s c.args.store.now.types rows (asked_by c.args.ask.now) q holds).0) in
     let parts = map chosen_of c.as_slice-in-Parts.result.now in
-    keeps_bound s t.number (tests_of parts) keeping.Rows c.in_ok-read-in-Parts.read.rows (c.in_ok-read-in-Parts.ensures.found s own)
+    kept_bound s t.number (tests_of parts) keeping.Rows c.in_ok-read-in-Parts.read.rows (c.in_ok-read-in-Parts.ensures.found s own)
 
 pub print_found-requires-clause-rows : goal.print_found-requires-clause-rows
 print_found-requires-clause-rows g c =
@@ -79,8 +79,8 @@ print_found-requires-clause-rows g c =
     let known = subst (λ u. (type_at u.number s ≡ Some u) × (u.number ≡ a.number)) (sym same) (type_known s types rows a q holds) in
     let own = subst (λ u. IsTypeOf s u rows) (sym same) (type_of s q.of types rows holds (type_known s types rows a q holds).0) in
     let planned = subst (λ (p : Planned). IsPlanned t a p) c.in-Parts.is c.in_ok-code.ensures in
-    let keeps = subst (λ ps. Keeps s t.number (tests_of (map chosen_of ps)) keeping.Rows c.in_ok-read-in-Parts.read.rows) c.as_slice-in-Parts.ensures (c.in_ok-read-in-Parts.ensures.found s own) in
-    (answer a.number a.wanted s, rows_are c.parts_find_all.ensures s a t c.in-Parts.plan c.in-Parts.target c.in_ok-read-in-Parts.read.rows types rows holds known.0 known.1 planned keeps)
+    let kept = subst (λ ps. AreKept s t.number (tests_of (map chosen_of ps)) keeping.Rows c.in_ok-read-in-Parts.read.rows) c.as_slice-in-Parts.ensures (c.in_ok-read-in-Parts.ensures.found s own) in
+    (answer a.number a.wanted s, rows_are c.parts_find_all.ensures s a t c.in-Parts.plan c.in-Parts.target c.in_ok-read-in-Parts.read.rows types rows holds known.0 known.1 planned kept)
 
 pub returns-in_ok-printed-in-Parts : goal.returns-in_ok-printed-in-Parts
 returns-in_ok-printed-in-Parts g c = λ s holds.
@@ -95,8 +95,8 @@ returns-in_ok-printed-in-Parts g c = λ s holds.
     let planned = subst (λ (p : Planned). IsPlanned t a p) c.in-Parts.is c.in_ok-code.ensures in
     let read = c.in_ok-read-in-Parts.read in
     let plan_is = c.as_slice-in-Parts.ensures in
-    let keeps = subst (λ ps. Keeps s t.number (tests_of (map chosen_of ps)) keeping.Rows read.rows) plan_is (c.in_ok-read-in-Parts.ensures.found s own) in
+    let kept = subst (λ ps. AreKept s t.number (tests_of (map chosen_of ps)) keeping.Rows read.rows) plan_is (c.in_ok-read-in-Parts.ensures.found s own) in
     let examined = subst (λ ps. (read.examined ≡ rows_examined t c.in-Parts.target (rows_of s) (map chosen_of ps))
     × (g.B.Tally.Counter.number c.read_rows.new.tally ≡ capped_sum (g.B.Tally.Counter.number c.args.tally.now) read.examined)) plan_is (c.in_ok-read-in-Parts.ensures.examined s own) in
     query_reply c.parts_find_all.ensures s a t c.in-Parts.plan c.in-Parts.target read.rows c.in_ok-printed-in-Parts.printed.rows c.in_ok-printed-in-Parts.printed.matched read.examined
-    (g.B.Tally.Counter.number c.args.tally.now) (g.B.Tally.Counter.number c.read_rows.new.tally) types rows holds known.0 known.1 planned keeps c.in_ok-printed-in-Parts.ensures examined
+    (g.B.Tally.Counter.number c.args.tally.now) (g.B.Tally.Counter.number c.read_rows.new.tally) types rows holds known.0 known.1 planned kept c.in_ok-printed-in-Parts.ensures examined

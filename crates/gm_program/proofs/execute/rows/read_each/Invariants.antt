@@ -4,14 +4,14 @@ use Rattle.gm_engine_rows.specs.State.{State}
 use Rattle.gm_engine_rows.specs.Rows.{rows_of}
 use Rattle.gm_strategy.specs.Chosen.{chosen_of}
 use Rattle.gm_program.specs.Finding.{tests_of}
-use Rattle.gm_program.specs.Keeping.{Keeps}
+use Rattle.gm_program.specs.Kept.{AreKept}
 use Rattle.gm_program.specs.Question.{rows_examined}
 use Rattle.gm_program.specs.Store.{IsTypeOf}
 use Rattle.gm_program.proofs.execute.rows.read_each.Given as goal
 
 abbrev pub invariant-parts : goal.invariant-parts
 invariant-parts g l = record {
-  found : (s : State) → IsTypeOf s l.of (g.B.Sorted.rows l.table) → Keeps s l.of.number (tests_of (map chosen_of (take l.part-index l.parts))) l.keeping l.rows;
+  found : (s : State) → IsTypeOf s l.of (g.B.Sorted.rows l.table) → AreKept s l.of.number (tests_of (map chosen_of (take l.part-index l.parts))) l.keeping l.rows;
   tally : (s : State) → IsTypeOf s l.of (g.B.Sorted.rows l.table)
       → g.B.Tally.Counter.number l.tally ≡ capped_sum (g.B.Tally.Counter.number l.fn.tally) (rows_examined l.of l.target (rows_of s) (map chosen_of (take l.part-index l.parts)));
 }

@@ -19,6 +19,6 @@ returns c =
       same = refl;
       way = refl;
       keeps = λ f are. on_ok c.push.result
-          (kept_one it.keeping (filter_of it.trial.now) f it.rows _ _ _ c.args.bytes.now _ (c.in_ok-passes.ensures f are) c.if-not-branch.false
-          (c.id-id.ensures f are) c.kept_bytes.ensures are.same) c.push.ensures.ok;
+          (kept_one it.keeping (filter_of it.trial.now) f it.rows _ _ _ _ (c.in_ok-passes.ensures f are) c.if-not-branch.false
+          (c.id-id.ensures f are) (c.kept_bytes.ensures f are.same)) c.push.ensures.ok;
     }

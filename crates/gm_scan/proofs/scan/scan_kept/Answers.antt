@@ -3,7 +3,7 @@ use Rattle.gm_filter.specs.Tree.{tree}
 use Rattle.gm_table.specs.Spans.{rows_in}
 use Rattle.gm_scan.specs.Trial.{type_of, filter_of}
 use Rattle.gm_scan.proofs.Visits.{admitted, kept_all, on_ok}
-use Rattle.gm_scan.proofs.scan.keep.Goals as goal
+use Rattle.gm_scan.proofs.scan.scan_kept.Goals as goal
 
 pub read-answer-requires-clause-admits : goal.read-answer-requires-clause-admits
 read-answer-requires-clause-admits g c κs within =

@@ -1,19 +1,13 @@
--- What is kept of features that are found.
+-- What is kept of the features that the parts of a plan find.
 use Rattle.std.specs.Prelude.{◌≡◌, ℕ, List, [], ◌++◌, map, Some}
 use Rattle.std.specs.List.{AllByRecursion}
 use Rattle.gm_feature.specs.declared.feature.Feature.{Feature}
 use Rattle.gm_filter.specs.Tree.{Tree}
-use Rattle.gm_scan.specs.FoundRows.{FoundRow, row_of, id_of}
+use Rattle.gm_scan.specs.declared.found_rows.Keeping.{Keeping}
+use Rattle.gm_scan.specs.FoundRows.{FoundRow, kept_of}
 use Rattle.gm_engine_rows.specs.State.{State, feature_at}
-use Rattle.gm_program.specs.declared.execute.rows.Keeping.{Keeping}
-use Rattle.gm_program.specs.declared.execute.rows.Keeping.TheVariants.{Rows, Ids}
 use Rattle.gm_program.specs.Collecting.{Collects, collected}
 use Rattle.gm_program.specs.Finding.{Finds}
-
--- the row of a feature, or its identifier alone
-abbrev pub kept_of : Keeping → Feature → FoundRow
-kept_of Rows = row_of
-kept_of Ids = id_of
 
 -- a part adds what it finds
 pub record Adds (s : State) (n : ℕ) (test : Tree) (keeping : Keeping) (before after : List FoundRow) : Type 0 where
@@ -21,8 +15,8 @@ pub record Adds (s : State) (n : ℕ) (test : Tree) (keeping : Keeping) (before 
   pub finds : Finds s n test features
   pub are : after ≡ before ++ map (kept_of keeping) features
 
--- the rows are those of features of the state, which are what the filters find
-pub record Keeps (s : State) (n : ℕ) (tests : List Tree) (keeping : Keeping) (rows : List FoundRow) : Type 0 where
+-- the rows are what is kept of features of the state, which are those that the filters find
+pub record AreKept (s : State) (n : ℕ) (tests : List Tree) (keeping : Keeping) (rows : List FoundRow) : Type 0 where
   pub features : List Feature
   pub are : rows ≡ map (kept_of keeping) features
   pub bound : AllByRecursion (λ f. feature_at n f.id s ≡ Some f) features
