@@ -1,8 +1,7 @@
 #!/bin/sh
 # Runs a script again and again, and makes its first allocation fail, its second, and so on, until a
-# run meets no failure. Each run must end by itself: with status 0 and all replies, with status 1
-# and a front of the replies, or, before a line is read, with status 2 and none, since the words of
-# the command line could not be read.
+# run meets no failure. Each run must end by itself: with status 0 and all replies, or with status 1
+# and a front of the replies.
 cd "$(dirname "$0")/.." || exit 1
 scratch=$(mktemp -d)
 trap 'rm -rf "$scratch"' EXIT
@@ -30,7 +29,6 @@ while [ "$at" -le 10000 ]; do
     case $status in
     0) [ "$wrote" -eq "$size" ] && [ "$refused" -gt 0 ] && exit 0 ;;
     1) refused=$((refused + 1)) ;;
-    2) [ "$wrote" -eq 0 ] && [ "$refused" -eq 0 ] ;;
     *) false ;;
     esac || {
         echo "allocation $at: status $status after $wrote bytes"
