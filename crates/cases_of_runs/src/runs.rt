@@ -89,8 +89,8 @@ fn told_each(
         };
         let mut over_map = Store::new(alloc, MapTable::new(alloc));
         let mut over_blocks = Store::new(alloc, BlockTable::new(alloc));
-        let one = told_of_call(alloc, plan, script, failing, &mut over_map)?;
-        let other = told_of_call(alloc, plan, script, failing, &mut over_blocks)?;
+        let one = outcome_of_call(alloc, plan, script, failing, &mut over_map)?;
+        let other = outcome_of_call(alloc, plan, script, failing, &mut over_blocks)?;
         told.extend_from_slice(one.line.as_bytes())?;
         if one.line.as_bytes() != other.line.as_bytes() {
             told.extend_from_slice(b"over blocks: ")?;
@@ -105,18 +105,18 @@ fn told_each(
 
 // What is told of a run with a call that fails, and whether it was done all the same.
 #[derive(Drop)]
-struct Told {
+struct Outcome {
     line: String,
     is_done: bool,
 }
 
-fn told_of_call<B: Sorted<Tally = Tally> + Sync>(
+fn outcome_of_call<B: Sorted<Tally = Tally> + Sync>(
     alloc: Global,
     plan: Plan,
     script: &Script,
     failing: Failing,
     store: &mut Store<B>,
-) -> Result<Told, NoMemory>
+) -> Result<Outcome, NoMemory>
     requires kept { HasState store.old.types (B.rows store.old.table) }
 {
     let mut tally = Tally::new();
@@ -126,7 +126,7 @@ fn told_of_call<B: Sorted<Tally = Tally> + Sync>(
     let lines = ended.written.iter().filter(|byte| **byte == b'\n').count();
     let bytes = ended.written.len();
     let status = ended.status.number();
-    Ok(Told {
+    Ok(Outcome {
         line: format!(in alloc; "status {status} lines {lines} bytes {bytes}\n")?,
         is_done: ended.status == Status::Done,
     })
