@@ -1,5 +1,6 @@
 -- Small lemmas that proofs of several crates need.
-use Rattle.std.proofs.Common.{◌≡◌, Bool, true, false, ◌&&◌, ◌||◌, List, [], ◌∷◌, length, refl, arith}
+use Rattle.std.proofs.Common.{◌≡◌, Bool, true, false, ◌&&◌, ◌||◌, List, [], ◌∷◌, length, refl}
+use Rattle.std.proofs.Common.{arith}
 use Rattle.std.specs.Prelude.{T}
 
 pub both_from : (a b : Bool) → a ≡ true → b ≡ true → (a && b) ≡ true

@@ -13,5 +13,7 @@ not_identifier bytes broken =
     ] refl
 
 -- of UTF-8 the form decides
-pub is_identifier-form : (bytes : List ℕ) → IsUtf8 bytes → is_identifier bytes ≡ has_identifier_form bytes
-is_identifier-form bytes utf8 = ap (λ b. b && has_identifier_form bytes) (is_utf8-from_IsUtf8 bytes utf8)
+pub is_identifier-form : (bytes : List ℕ) → IsUtf8 bytes
+    → is_identifier bytes ≡ has_identifier_form bytes
+is_identifier-form bytes utf8 =
+    ap (λ b. b && has_identifier_form bytes) (is_utf8-from_IsUtf8 bytes utf8)

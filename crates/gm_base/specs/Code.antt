@@ -1,7 +1,9 @@
 -- The codes of refused lines, as they are printed.
 use Rattle.std.specs.Prelude.{ℕ, List, codes}
 use Rattle.gm_base.specs.declared.code.Code.{Code}
-use Rattle.gm_base.specs.declared.code.Code.TheVariants.{E01, E02, E03, E04, E05, E06, E07, E08, E09, E10, E11, E12, E13, E14, E15, E16, E17, E18, E19}
+use Rattle.gm_base.specs.declared.code.Code.TheVariants.{E01, E02, E03, E04, E05, E06, E07, E08}
+use Rattle.gm_base.specs.declared.code.Code.TheVariants.{E09, E10, E11, E12, E13, E14, E15, E16}
+use Rattle.gm_base.specs.declared.code.Code.TheVariants.{E17, E18, E19}
 
 abbrev pub code_name : Code → List ℕ
 code_name E01 = codes "E01"

@@ -11,7 +11,8 @@ abbrev pub rest_of : List ℕ → List ℕ
 rest_of [] = []
 rest_of (byte ∷ bytes) = bytes
 
--- a number, and after it the first n bytes as its further digits in base 256, with 0 for those that lack
+-- a number, and after it the first n bytes as its further digits in base 256, with 0 for those that
+-- lack
 abbrev pub front_after : ℕ → ℕ → List ℕ → ℕ
 front_after number zero bytes = number
 front_after number (suc n) bytes = front_after (number * 256 + first_of bytes) n (rest_of bytes)

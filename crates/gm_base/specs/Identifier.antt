@@ -11,7 +11,8 @@ is_printable byte = nat_le 32 byte && not (byte == 127)
 
 -- 1 to 128 bytes, none of them a control character
 abbrev pub has_identifier_form : List ℕ → Bool
-has_identifier_form bytes = (nat_le 1 (length bytes) && nat_le (length bytes) 128) && list_all is_printable bytes
+has_identifier_form bytes =
+    (nat_le 1 (length bytes) && nat_le (length bytes) 128) && list_all is_printable bytes
 
 -- UTF-8 of that form
 abbrev pub is_identifier : List ℕ → Bool

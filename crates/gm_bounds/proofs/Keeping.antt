@@ -5,7 +5,9 @@ use Rattle.std.specs.Prelude.{is_none}
 use Rattle.gm_geom.specs.Validity.{fault_of}
 use Rattle.gm_types.specs.Specification.{Specification}
 use Rattle.gm_filter.specs.Suits.{Suits, suits, all_suit, is_kept, has_area}
-use Rattle.gm_filter.specs.Tree.{Tree, Trees, include, exclude, negated, all, any, compare, between, like, one_of, is_null, ids, bbox, intersects, disjoint, within, during, before, after, tequals, no_trees, tree_and}
+use Rattle.gm_filter.specs.Tree.{Tree, Trees, include, exclude, negated, all, any, compare, between}
+use Rattle.gm_filter.specs.Tree.{like, one_of, is_null, ids, bbox, intersects, disjoint, within}
+use Rattle.gm_filter.specs.Tree.{during, before, after, tequals, no_trees, tree_and}
 use Rattle.gm_bounds.specs.Kept.{HasKept, AllHaveKept}
 
 none_is : {A : Type 0} (o : Option A) → is_none o ≡ true → o ≡ None
@@ -28,7 +30,8 @@ mutual
   has_kept s (bbox a b) h = tt
   has_kept s (intersects a g) h = none_is (fault_of g) (and_parts (is_kept g) _ h).0
   has_kept s (disjoint a g) h = tt
-  has_kept s (within a g) h = none_is (fault_of g) (and_parts (has_area g) _ (and_parts (has_area g && is_kept g) _ h).0).1
+  has_kept s (within a g) h =
+      none_is (fault_of g) (and_parts (has_area g) _ (and_parts (has_area g && is_kept g) _ h).0).1
   has_kept s (during a low high) h = tt
   has_kept s (before a at) h = tt
   has_kept s (after a at) h = tt
@@ -36,4 +39,5 @@ mutual
 
   pub all_have_kept : (s : Specification) (ts : Trees) → all_suit s ts ≡ true → AllHaveKept ts
   all_have_kept s no_trees h = tt
-  all_have_kept s (tree_and t ts) h = let parts = and_parts (suits s t) _ h in (has_kept s t parts.0, all_have_kept s ts parts.1)
+  all_have_kept s (tree_and t ts) h = let parts = and_parts (suits s t) _ h in
+      (has_kept s t parts.0, all_have_kept s ts parts.1)

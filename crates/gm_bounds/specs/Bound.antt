@@ -1,6 +1,8 @@
 -- Bounds of a filter, by recursion on its tree: the world, or a list of places where to look.
 use Rattle.std.specs.Prelude.{ℕ, nat_eq, if◌then◌else◌, List, []}
-use Rattle.gm_filter.specs.Tree.{Tree, Trees, include, exclude, negated, all, any, compare, between, like, one_of, is_null, ids, bbox, intersects, disjoint, within, during, before, after, tequals, no_trees, tree_and}
+use Rattle.gm_filter.specs.Tree.{Tree, Trees, include, exclude, negated, all, any, compare, between}
+use Rattle.gm_filter.specs.Tree.{like, one_of, is_null, ids, bbox, intersects, disjoint, within}
+use Rattle.gm_filter.specs.Tree.{during, before, after, tequals, no_trees, tree_and}
 use Rattle.gm_bounds.specs.declared.bound.Bound.{Bound}
 use Rattle.gm_bounds.specs.declared.bound.Bound.TheVariants.{World, Listed}
 use Rattle.gm_bounds.specs.Lists.{both, either, counted}
@@ -9,13 +11,15 @@ use Rattle.gm_bounds.specs.Lists.{both, either, counted}
 abbrev pub on : {X : Type 0} → ℕ → ℕ → Bound X → Bound X
 on a b bound = if nat_eq a b then bound else World
 
--- How bounds of one kind are made: the bound of a test, what AND makes of two lists, and what becomes of the list of an OR.
+-- How bounds of one kind are made: the bound of a test, what AND makes of two lists, and what
+-- becomes of the list of an OR.
 pub record Rules (X : Type 0) : Type 0 where
   pub test : Tree → Bound X
   pub met : List X → List X → List X
   pub counted : List X → List X
 
--- AND goes from left to right, two at a time; OR joins all and is counted once; of NOT nothing is known.
+-- AND goes from left to right, two at a time; OR joins all and is counted once; of NOT nothing is
+-- known.
 abbrev mutual
   pub bound_of : {X : Type 0} → Rules X → Tree → Bound X
   bound_of r include = World

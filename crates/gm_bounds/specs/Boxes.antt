@@ -28,10 +28,16 @@ box_test d (intersects a g) = on a d (box_of g)
 box_test d (within a g) = on a d (box_of g)
 box_test d _ = World
 
--- Of points AND takes what lies in both boxes. An object may meet two boxes and not what lies in both:
+-- Of points AND takes what lies in both boxes. An object may meet two boxes and not what lies in
+-- both:
 -- of other geometries the first list is kept.
 abbrev pub box_rules : ℕ → Bool → Rules Box2
-box_rules d of_points = record { test = box_test d; met = meeting of_points met is_void joined; counted = capped joined }
+box_rules d of_points =
+    record {
+      test = box_test d;
+      met = meeting of_points met is_void joined;
+      counted = capped joined;
+    }
 
 abbrev pub boxes_at : Option ℕ → Bool → Tree → Bound Box2
 boxes_at None of_points t = World

@@ -1,4 +1,5 @@
--- Ranges of bytes: the low end is in it, the high end is not. Without a high end it goes on to the last.
+-- Ranges of bytes: the low end is in it, the high end is not. Without a high end it goes on to the
+-- last.
 use Rattle.std.specs.Prelude.{ℕ, Bool, false, if◌then◌else◌, List, Option, Some, None}
 use Rattle.std.specs.Ordering.{nat_cmp, is_lt, is_le}
 use Rattle.std.specs.Cmp.Lexicographic.{slice_cmp}

@@ -1,5 +1,6 @@
 -- The byte ranges of a filter: where the lexicoded value of an attribute is to be looked for.
-use Rattle.std.specs.Prelude.{ℕ, ℤ, pos, ◌+ℤ◌, ◌^◌, ◌==◌, ◌||◌, Bool, true, if◌then◌else◌, List, [], ◌∷◌, ◌++◌, length, nat_le, Option, Some, None}
+use Rattle.std.specs.Prelude.{ℕ, ℤ, pos, ◌+ℤ◌, ◌^◌, ◌==◌, ◌||◌, Bool, true, if◌then◌else◌, List, []}
+use Rattle.std.specs.Prelude.{◌∷◌, ◌++◌, length, nat_le, Option, Some, None}
 use Rattle.std.specs.List.{list_any}
 use Rattle.gm_types.specs.declared.kind.Kind.{Kind}
 use Rattle.gm_types.specs.declared.kind.Kind.TheVariants as kind
@@ -14,7 +15,8 @@ use Rattle.gm_filter.specs.declared.filter.Op.TheVariants.{Eq, Ne, Lt, Le, Gt, G
 use Rattle.gm_filter.specs.declared.filter.Literal.{Literal}
 use Rattle.gm_filter.specs.declared.filter.Literal.TheVariants as literal
 use Rattle.gm_filter.specs.Like.{has_wildcard, plain_front}
-use Rattle.gm_filter.specs.Tree.{Tree, compare, between, like, one_of, during, before, after, tequals}
+use Rattle.gm_filter.specs.Tree.{Tree, compare, between, like, one_of, during, before, after}
+use Rattle.gm_filter.specs.Tree.{tequals}
 use Rattle.gm_bounds.specs.declared.bound.Bound.{Bound}
 use Rattle.gm_bounds.specs.declared.bound.Bound.TheVariants.{World, Listed}
 use Rattle.gm_bounds.specs.declared.byte_range.ByteRange.{ByteRange}
@@ -108,27 +110,34 @@ ranges_of k (l ∷ literals) = range_of (literal_form k l) ++ ranges_of k litera
 abbrev pub is_blank : List ℕ → Bool
 is_blank bytes = nat_le (length bytes) 0
 
--- what is like a pattern begins as the pattern does before its first `%` or `_`, if anything stands there
+-- what is like a pattern begins as the pattern does before its first `%` or `_`, if anything stands
+-- there
 abbrev pub begun_by : List ℕ → List ℕ → Bound ByteRange
-begun_by pattern front = if is_blank front || has_zero pattern then World else single is_void (beginning front)
+begun_by pattern front =
+    if is_blank front || has_zero pattern then World else single is_void (beginning front)
 
 abbrev pub patterned : List ℕ → Bound ByteRange
-patterned pattern = if has_wildcard pattern then begun_by pattern (plain_front pattern) else compared Eq (text_form pattern)
+patterned pattern =
+    if has_wildcard pattern then begun_by pattern (plain_front pattern)
+    else compared Eq (text_form pattern)
 
 -- of a test, where the ranges of attribute d of that kind are asked for
 abbrev pub range_test : ℕ → Kind → Tree → Bound ByteRange
 range_test d k (compare a op l) = on a d (compared op (literal_form k l))
-range_test d k (between a low high) = on a d (lying_between (literal_form k low) (literal_form k high))
+range_test d k (between a low high) =
+    on a d (lying_between (literal_form k low) (literal_form k high))
 range_test d k (like a pattern) = on a d (patterned pattern)
 range_test d k (one_of a literals) = on a d (listed is_void joined (ranges_of k literals))
-range_test d k (during a low high) = on a d (ranging (date_bytes (low +ℤ pos 1)) (Some (date_bytes high)))
+range_test d k (during a low high) =
+    on a d (ranging (date_bytes (low +ℤ pos 1)) (Some (date_bytes high)))
 range_test d k (before a at) = on a d (compared_form Lt (date_bytes at))
 range_test d k (after a at) = on a d (compared_form Gt (date_bytes at))
 range_test d k (tequals a at) = on a d (compared_form Eq (date_bytes at))
 range_test d k _ = World
 
 abbrev pub range_rules : ℕ → Kind → Rules ByteRange
-range_rules d k = record { test = range_test d k; met = meeting true met is_void joined; counted = capped joined }
+range_rules d k =
+    record { test = range_test d k; met = meeting true met is_void joined; counted = capped joined }
 
 abbrev pub ranges_at : ℕ → Option Kind → Tree → Bound ByteRange
 ranges_at d None t = World

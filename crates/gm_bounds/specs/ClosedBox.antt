@@ -25,7 +25,8 @@ is_void b = int_lt b.high.x b.low.x || int_lt b.high.y b.low.y
 
 -- the point is in the closed box
 abbrev pub is_in_box : Point → Box2 → Bool
-is_in_box p b = (int_le b.low.x p.x && int_le p.x b.high.x) && (int_le b.low.y p.y && int_le p.y b.high.y)
+is_in_box p b =
+    (int_le b.low.x p.x && int_le p.x b.high.x) && (int_le b.low.y p.y && int_le p.y b.high.y)
 
 abbrev pub extent_overlaps : Option Box2 → Box2 → Bool
 extent_overlaps None b = false
@@ -37,8 +38,10 @@ is_found_in (geo.Point p) b = is_in_box p b
 is_found_in (geo.Line points) b = extent_overlaps (extent_of points) b
 is_found_in (geo.Area rings) b = extent_overlaps (extent_of (points_of (geo.Area rings))) b
 is_found_in (geo.ManyPoints points) b = extent_overlaps (extent_of points) b
-is_found_in (geo.ManyLines lines) b = extent_overlaps (extent_of (points_of (geo.ManyLines lines))) b
-is_found_in (geo.ManyAreas areas) b = extent_overlaps (extent_of (points_of (geo.ManyAreas areas))) b
+is_found_in (geo.ManyLines lines) b =
+    extent_overlaps (extent_of (points_of (geo.ManyLines lines))) b
+is_found_in (geo.ManyAreas areas) b =
+    extent_overlaps (extent_of (points_of (geo.ManyAreas areas))) b
 
 -- the value is a geometry that is so in the box
 abbrev pub is_geometry_in : Value → Box2 → Bool

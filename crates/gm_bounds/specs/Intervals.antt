@@ -60,7 +60,12 @@ interval_test d (tequals a at) = on a d (dated Eq at)
 interval_test d _ = World
 
 abbrev pub interval_rules : ℕ → Rules Interval
-interval_rules d = record { test = interval_test d; met = meeting true met is_void joined; counted = capped joined }
+interval_rules d =
+    record {
+      test = interval_test d;
+      met = meeting true met is_void joined;
+      counted = capped joined;
+    }
 
 abbrev pub intervals_at : Option ℕ → Tree → Bound Interval
 intervals_at None t = World

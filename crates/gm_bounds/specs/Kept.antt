@@ -1,7 +1,9 @@
 -- What looking for the boxes of a filter needs: literals that are kept.
 use Rattle.std.specs.Prelude.{◌≡◌, None}
 use Rattle.gm_geom.specs.Validity.{fault_of}
-use Rattle.gm_filter.specs.Tree.{Tree, Trees, include, exclude, negated, all, any, compare, between, like, one_of, is_null, ids, bbox, intersects, disjoint, within, during, before, after, tequals, no_trees, tree_and}
+use Rattle.gm_filter.specs.Tree.{Tree, Trees, include, exclude, negated, all, any, compare, between}
+use Rattle.gm_filter.specs.Tree.{like, one_of, is_null, ids, bbox, intersects, disjoint, within}
+use Rattle.gm_filter.specs.Tree.{during, before, after, tequals, no_trees, tree_and}
 
 abbrev mutual
   pub HasKept : Tree → Type 0

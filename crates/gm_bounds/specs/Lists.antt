@@ -1,5 +1,6 @@
 -- Lists of places, and what AND and OR make of bounds.
-use Rattle.std.specs.Prelude.{Bool, nat_le, if◌then◌else◌, List, [], ◌∷◌, ◌++◌, length, fold, Option, Some, None, option_to_list}
+use Rattle.std.specs.Prelude.{Bool, nat_le, if◌then◌else◌, List, [], ◌∷◌, ◌++◌, length, fold}
+use Rattle.std.specs.Prelude.{Option, Some, None, option_to_list}
 use Rattle.gm_bounds.specs.declared.bound.Bound.{Bound}
 use Rattle.gm_bounds.specs.declared.bound.Bound.TheVariants.{World, Listed}
 
@@ -31,8 +32,10 @@ pairs met is_void [] ys = []
 pairs met is_void (x ∷ xs) ys = pairs_of met is_void x ys ++ pairs met is_void xs ys
 
 -- what AND makes of two lists: what lies in both, member by member, or the first list
-abbrev pub meeting : {X : Type 0} → Bool → (X → X → X) → (X → Bool) → (X → X → X) → List X → List X → List X
-meeting in_pairs met is_void joined xs ys = if in_pairs then capped joined (pairs met is_void xs ys) else xs
+abbrev pub meeting : {X : Type 0} → Bool → (X → X → X) → (X → Bool) → (X → X → X) → List X
+    → List X → List X
+meeting in_pairs met is_void joined xs ys =
+    if in_pairs then capped joined (pairs met is_void xs ys) else xs
 
 -- what AND makes of two bounds: the world with a list is the list
 abbrev pub both : {X : Type 0} → (List X → List X → List X) → Bound X → Bound X → Bound X

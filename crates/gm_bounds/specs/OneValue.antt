@@ -1,5 +1,7 @@
 -- Which ranges are of one value.
-use Rattle.std.specs.Prelude.{◌≡◌, ◌==◌, ◌&&◌, ◌||◌, ◌^◌, ◌-ℤ◌, ℕ, ℤ, pos, Bool, true, false, if◌then◌else◌, List, [], ◌∷◌, length, nat_lt, Option, Some, None, FitsSigned}
+use Rattle.std.specs.Prelude.{◌≡◌, ◌==◌, ◌&&◌, ◌||◌, ◌^◌, ◌-ℤ◌, ℕ, ℤ, pos, Bool, true, false}
+use Rattle.std.specs.Prelude.{if◌then◌else◌, List, [], ◌∷◌, length, nat_lt, Option, Some, None}
+use Rattle.std.specs.Prelude.{FitsSigned}
 use Rattle.std.specs.Int.{w32, w64}
 use Rattle.std.specs.List.{list_all}
 use Rattle.std.specs.Option.{option_eq}
@@ -7,7 +9,8 @@ use Rattle.std.specs.Str.{bytes_eq, is_utf8}
 use Rattle.byteorder.specs.Endian.{big_number}
 use Rattle.gm_calendar.specs.Instant.{IsInstant, is_instant}
 use Rattle.gm_lexi.specs.After.{after_of}
-use Rattle.gm_lexi.specs.Lexicode.{int_bytes, long_bytes, date_bytes, bool_bytes, text_bytes, IsLexicalText}
+use Rattle.gm_lexi.specs.Lexicode.{int_bytes, long_bytes, date_bytes, bool_bytes, text_bytes}
+use Rattle.gm_lexi.specs.Lexicode.{IsLexicalText}
 use Rattle.gm_types.specs.declared.kind.Kind.{Kind}
 use Rattle.gm_types.specs.declared.kind.Kind.TheVariants as kind
 use Rattle.gm_bounds.specs.declared.byte_range.ByteRange.{ByteRange}
@@ -21,7 +24,8 @@ IsForm kind.Boolean form = (b : Bool) × (form ≡ bool_bytes b)
 IsForm kind.Date form = (at : ℤ) × IsInstant at × (form ≡ date_bytes at)
 IsForm (kind.Geo s) form = ⊥
 
--- The low end is the whole form of a value, and the high end that of all that begins with it, or missing where that has none.
+-- The low end is the whole form of a value, and the high end that of all that begins with it, or
+-- missing where that has none.
 pub record IsOfOneValue (k : Kind) (r : ByteRange) : Type 0 where
   pub form : IsForm k r.low
   pub end : r.high ≡ after_of r.low
@@ -46,7 +50,8 @@ with_byte byte (Some text) = Some (byte ∷ text)
 -- what stands before a 0 at the end, where that is the only one
 abbrev pub before_end : List ℕ → Option (List ℕ)
 before_end [] = None
-before_end (byte ∷ bytes) = if byte == 0 then nothing_before bytes else with_byte byte (before_end bytes)
+before_end (byte ∷ bytes) =
+    if byte == 0 then nothing_before bytes else with_byte byte (before_end bytes)
 
 abbrev pub is_text_in_utf8 : Option (List ℕ) → Bool
 is_text_in_utf8 None = false

@@ -1,5 +1,6 @@
 -- Instants, as their milliseconds since 1970-01-01T00:00:00Z.
-use Rattle.std.specs.Prelude.{ℕ, Bool, ◌&&◌, ℤ, pos, neg_ℤ, int_le, ◌≤ℤ◌, if◌then◌else◌, Option, Some, None}
+use Rattle.std.specs.Prelude.{ℕ, Bool, ◌&&◌, ℤ, pos, neg_ℤ, int_le, ◌≤ℤ◌, if◌then◌else◌, Option}
+use Rattle.std.specs.Prelude.{Some, None}
 
 -- the milliseconds from 0000-01-01T00:00:00Z to 1970, and the last of the year 9999
 abbrev pub ms_before_1970 : ℕ

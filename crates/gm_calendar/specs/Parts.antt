@@ -1,11 +1,13 @@
 -- Which texts spell which instants, by the parts of a text laid end to end: a date, then optionally
 -- `T` and a time, and behind a time optionally a zone. Each part stands for a number of
 -- milliseconds, and a text for their sum since 1970-01-01T00:00:00Z.
-use Rattle.std.specs.Prelude.{◌≡◌, ◌<◌, ◌≤◌, ◌⊎◌, ℕ, ◌+◌, ◌*◌, true, List, [], ◌∷◌, ◌++◌, length, take, fold, ℤ, pos, neg_ℤ, ◌+ℤ◌, ◌*ℤ◌}
+use Rattle.std.specs.Prelude.{◌≡◌, ◌<◌, ◌≤◌, ◌⊎◌, ℕ, ◌+◌, ◌*◌, true, List, [], ◌∷◌, ◌++◌, length}
+use Rattle.std.specs.Prelude.{take, fold, ℤ, pos, neg_ℤ, ◌+ℤ◌, ◌*ℤ◌}
 use Rattle.std.specs.Char.{is_ascii_digit}
 use Rattle.std.specs.List.{list_all}
 use Rattle.jiff_core.specs.Calendar.{days_from_civil}
-use Rattle.gm_calendar.specs.Bytes.{plus_sign, minus_sign, decimal_point, digit_zero, colon, letter_t, letter_z}
+use Rattle.gm_calendar.specs.Bytes.{plus_sign, minus_sign, decimal_point, digit_zero, colon}
+use Rattle.gm_calendar.specs.Bytes.{letter_t, letter_z}
 use Rattle.gm_calendar.specs.Calendar.{days_of_month}
 use Rattle.gm_calendar.specs.Instant.{day_ms, second_ms, minute_ms, IsInstant}
 use Rattle.gm_calendar.specs.Spelling.{next_digit}

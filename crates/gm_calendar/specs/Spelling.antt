@@ -1,12 +1,17 @@
 -- The instant of a text as a function, which takes the text apart from the front, and the printed
 -- form. Which texts spell which instants is said in `Parts`.
-use Rattle.std.specs.Prelude.{ℕ, ◌+◌, ◌-◌, ◌*◌, ◌/◌, ◌%◌, Bool, ◌&&◌, ◌||◌, ◌==◌, nat_lt, nat_le, if◌then◌else◌, List, [], ◌∷◌, ◌++◌, length, take, drop, fold, slice_index, slice_index_or, slice_range, ℤ, pos, neg_ℤ, ◌+ℤ◌, ◌*ℤ◌, unsigned_abs, Option, Some, None}
+use Rattle.std.specs.Prelude.{ℕ, ◌+◌, ◌-◌, ◌*◌, ◌/◌, ◌%◌, Bool, ◌&&◌, ◌||◌, ◌==◌, nat_lt, nat_le}
+use Rattle.std.specs.Prelude.{if◌then◌else◌, List, [], ◌∷◌, ◌++◌, length, take, drop, fold}
+use Rattle.std.specs.Prelude.{slice_index, slice_index_or, slice_range, ℤ, pos, neg_ℤ, ◌+ℤ◌, ◌*ℤ◌}
+use Rattle.std.specs.Prelude.{unsigned_abs, Option, Some, None}
 use Rattle.std.specs.Char.{is_ascii_digit}
 use Rattle.std.specs.List.{list_all, prefix_len}
 use Rattle.jiff_core.specs.Calendar.{days_from_civil}
-use Rattle.gm_calendar.specs.Bytes.{plus_sign, minus_sign, decimal_point, digit_zero, colon, letter_t, letter_z}
+use Rattle.gm_calendar.specs.Bytes.{plus_sign, minus_sign, decimal_point, digit_zero, colon}
+use Rattle.gm_calendar.specs.Bytes.{letter_t, letter_z}
 use Rattle.gm_calendar.specs.Calendar.{days_of_month, days_of_year, days_of_nth_month, span_at}
-use Rattle.gm_calendar.specs.Instant.{day_ms, hour_ms, minute_ms, second_ms, ms_before_1970, instant_at}
+use Rattle.gm_calendar.specs.Instant.{day_ms, hour_ms, minute_ms, second_ms, ms_before_1970}
+use Rattle.gm_calendar.specs.Instant.{instant_at}
 
 -- the number that decimal digits write
 abbrev pub next_digit : ℕ → ℕ → ℕ

@@ -1,5 +1,6 @@
 -- The XZ code, after Böhm, Klump and Kriegel (1999).
-use Rattle.std.specs.Prelude.{ℕ, zero, suc, ◌+◌, ◌-◌, ◌/◌, ◌^◌, ◌<◌, ◌≤◌, List, [], ◌∷◌, length, slice_index, nat_le, Bool, true, ◌&&◌, if◌then◌else◌}
+use Rattle.std.specs.Prelude.{ℕ, zero, suc, ◌+◌, ◌-◌, ◌/◌, ◌^◌, ◌<◌, ◌≤◌, List, [], ◌∷◌, length}
+use Rattle.std.specs.Prelude.{slice_index, nat_le, Bool, true, ◌&&◌, if◌then◌else◌}
 use Rattle.gm_curve.specs.Curve.{bits_at}
 use Rattle.gm_curve.specs.Listing.{listing, place_in}
 

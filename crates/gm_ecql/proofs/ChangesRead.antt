@@ -1,11 +1,15 @@
 -- Changes: what is read is spelled so, and what is spelled is read.
-use Rattle.std.proofs.Common.{◌≡◌, ℕ, zero, suc, Bool, true, false, ◌==◌, cond, List, [], ◌∷◌, ◌++◌, length, Option, Some, None, option_map, refl, sym, ◌∙◌, ap, subst, append_assoc, append-nil, ◌⊎◌, inl, inr}
+use Rattle.std.proofs.Common.{◌≡◌, ℕ, zero, suc, Bool, true, false, ◌==◌, cond, List, [], ◌∷◌, ◌++◌}
+use Rattle.std.proofs.Common.{length, Option, Some, None, option_map, refl, sym, ◌∙◌, ap, subst}
+use Rattle.std.proofs.Common.{append_assoc, append-nil, ◌⊎◌, inl, inr}
 use Rattle.std.specs.List.{list_all}
 use Rattle.gm_types.specs.Specification.{Specification}
 use Rattle.gm_filter.specs.Suits.{Suits}
 use Rattle.gm_ecql.specs.declared.keyword.Keyword.{Keyword}
 use Rattle.gm_ecql.specs.declared.keyword.Keyword.TheVariants as keyword
-use Rattle.gm_ecql.specs.Change.{New, new_literal, new_geometry, new_null, new_tokens, IsNew, new_at, assignment_tokens_at, assignment_of, change_judged, change_document, Assignment, JudgedChange, SpellsChangeJudged}
+use Rattle.gm_ecql.specs.Change.{New, new_literal, new_geometry, new_null, new_tokens, IsNew}
+use Rattle.gm_ecql.specs.Change.{new_at, assignment_tokens_at, assignment_of, change_judged}
+use Rattle.gm_ecql.specs.Change.{change_document, Assignment, JudgedChange, SpellsChangeJudged}
 use Rattle.gm_ecql.specs.Geometry.{piece_at, cut_behind, group_count, is_geometry_word}
 use Rattle.gm_ecql.specs.Grammar.{literal_token, IsGeometryPiece, SpellsJudged}
 use Rattle.gm_ecql.specs.Judging.{Judged, faultless}
@@ -32,9 +36,11 @@ record NewThere (ts : List Seen) (n : New) (rest : List Seen) : Type 0 where
 
 new_there : (ts : List Seen) (r : New × List Seen) → new_at ts ≡ Some r → NewThere ts r.0 r.1
 new_there ts r h = elim (chose (constant_at ts) _ _ _ h) [
-  | inl c ↦ subst (λ p. NewThere ts p.0 p.1) (some_is (new_literal c.0.0, c.0.1) r c.2) (record { formed = tt; written = constant_first ts c.0 c.1 })
+  | inl c ↦ subst (λ p. NewThere ts p.0 p.1) (some_is (new_literal c.0.0, c.0.1) r c.2)
+      (record { formed = tt; written = constant_first ts c.0 c.1 })
   | inr c ↦ elim (chose (after_keyword keyword.Null ts) _ _ _ c.1) [
-    | inl c ↦ subst (λ p. NewThere ts p.0 p.1) (some_is (new_null, c.0) r c.2) (record { formed = tt; written = keyword_first keyword.Null ts c.0 c.1 })
+    | inl c ↦ subst (λ p. NewThere ts p.0 p.1) (some_is (new_null, c.0) r c.2)
+        (record { formed = tt; written = keyword_first keyword.Null ts c.0 c.1 })
     | inr c ↦
         let m = mapped (piece_at ts) (λ r. (new_geometry r.0, r.1)) r c.1 in
         let p = piece_there ts m.0 m.1 in
@@ -45,16 +51,19 @@ new_there ts r h = elim (chose (constant_at ts) _ _ _ h) [
 true_false : {P : Type 0} (b : Bool) → b ≡ true → b ≡ false → P
 true_false b e f = absurd (cc)
 
-other_word : (w k : Keyword) (rest : List Seen) → begins_geometry w ≡ false → begins_geometry k ≡ true
+other_word : (w k : Keyword) (rest : List Seen) → begins_geometry w ≡ false
+    → begins_geometry k ≡ true
     → after_keyword w (a_keyword k ∷ rest) ≡ None
 other_word w k rest e f = by_place (keyword_place k == keyword_place w) refl
   where
-    by_place : (x : Bool) → (keyword_place k == keyword_place w) ≡ x → cond x (Some rest) None ≡ None
+    by_place : (x : Bool) → (keyword_place k == keyword_place w) ≡ x
+        → cond x (Some rest) None ≡ None
     by_place true p = true_false (begins_geometry k) f (ap begins_geometry (same_keyword k w p) ∙ e)
     by_place false p = refl
 
 -- a geometry begins with its word
-piece_begins : (piece : List Seen) → IsGeometryPiece piece → (k : Keyword) × (ts : List Seen) × (piece ≡ a_keyword k ∷ ts) × (begins_geometry k ≡ true)
+piece_begins : (piece : List Seen) → IsGeometryPiece piece
+    → (k : Keyword) × (ts : List Seen) × (piece ≡ a_keyword k ∷ ts) × (begins_geometry k ≡ true)
 piece_begins [] h = no_some ([], []) h
 piece_begins (a_keyword k ∷ ts) h = elim (chosen (begins_geometry k) _ _ _ h) [
   | inl p ↦ (k, ts, refl, p.0)
@@ -66,15 +75,21 @@ piece_begins (an_instant at ∷ ts) h = no_some (an_instant at ∷ ts, []) h
 piece_begins (a_number bytes ∷ ts) h = no_some (a_number bytes ∷ ts, []) h
 piece_begins (a_symbol s ∷ ts) h = no_some (a_symbol s ∷ ts, []) h
 
-word_no_constant : (k : Keyword) (rest : List Seen) → begins_geometry k ≡ true → constant_at (a_keyword k ∷ rest) ≡ None
-word_no_constant k rest e = rw (other_word keyword.True k rest refl e, other_word keyword.False k rest refl e) refl
+word_no_constant : (k : Keyword) (rest : List Seen) → begins_geometry k ≡ true
+    → constant_at (a_keyword k ∷ rest) ≡ None
+word_no_constant k rest e =
+    rw (other_word keyword.True k rest refl e, other_word keyword.False k rest refl e) refl
 
-geometry_found : (piece rest : List Seen) → IsGeometryPiece piece → new_at (piece ++ rest) ≡ Some (new_geometry piece, rest)
+geometry_found : (piece rest : List Seen) → IsGeometryPiece piece
+    → new_at (piece ++ rest) ≡ Some (new_geometry piece, rest)
 geometry_found piece rest p =
     let b = piece_begins piece p in
     let whole : piece ++ rest ≡ a_keyword b.0 ∷ (b.1 ++ rest) = ap (λ z. z ++ rest) b.2 in
-    let c : constant_at (piece ++ rest) ≡ None = ap constant_at whole ∙ word_no_constant b.0 (b.1 ++ rest) b.3 in
-    let n : after_keyword keyword.Null (piece ++ rest) ≡ None = ap (after_keyword keyword.Null) whole ∙ other_word keyword.Null b.0 (b.1 ++ rest) refl b.3 in
+    let c : constant_at (piece ++ rest) ≡ None =
+    ap constant_at whole ∙ word_no_constant b.0 (b.1 ++ rest) b.3 in
+    let n : after_keyword keyword.Null (piece ++ rest) ≡ None =
+    ap (after_keyword keyword.Null) whole
+    ∙ other_word keyword.Null b.0 (b.1 ++ rest) refl b.3 in
     rw (c, n, piece_more piece piece [] rest p) refl
 
 new_found : (n : New) (rest : List Seen) → IsNew n → new_at (new_tokens n ++ rest) ≡ Some (n, rest)
@@ -83,11 +98,13 @@ new_found (new_geometry piece) rest p = geometry_found piece rest p
 new_found new_null rest p = refl
 
 front_found : (name : List ℕ) (n : New) (rest : List Seen) → IsNew n
-    → assignment_tokens_at (a_name name ∷ (new_tokens n ++ a_keyword keyword.Where ∷ rest)) ≡ Some (name, (n, rest))
+    → assignment_tokens_at (a_name name ∷ (new_tokens n ++ a_keyword keyword.Where ∷ rest))
+    ≡ Some (name, (n, rest))
 unfolding assignment_tokens_at
 front_found name n rest p = rw (new_found n (a_keyword keyword.Where ∷ rest) p) refl
 
-pub change_sound : (s : Specification) (ts : List Seen) (c : JudgedChange) → change_document s ts ≡ Some c → SpellsChangeJudged s ts c
+pub change_sound : (s : Specification) (ts : List Seen) (c : JudgedChange)
+    → change_document s ts ≡ Some c → SpellsChangeJudged s ts c
 unfolding change_document assignment_tokens_at
 change_sound s ts c h =
     let f = bound (assignment_tokens_at ts) _ c h in
@@ -100,7 +117,8 @@ change_sound s ts c h =
     let n = new_there x.0.1 y.0 y.1 in
     let front : ts ≡ a_name x.0.0 ∷ (new_tokens y.0.0 ++ a_keyword keyword.Where ∷ z.0) =
     name_first ts x.0.1 x.0.0 x.1 ∙ ap (λ r. a_name x.0.0 ∷ r) n.written
-    ∙ ap (λ r. a_name x.0.0 ∷ (new_tokens y.0.0 ++ r)) (keyword_first keyword.Where y.0.1 z.0 z.1) in
+    ∙ ap (λ r. a_name x.0.0 ∷ (new_tokens y.0.0 ++ r))
+    (keyword_first keyword.Where y.0.1 z.0 z.1) in
     record {
       name = f.0.0;
       given = f.0.1.0;
@@ -108,24 +126,30 @@ change_sound s ts c h =
       assignment = a.0;
       filter = j.0;
       formed = subst (λ p. IsNew p.1.0) same n.formed;
-      written = subst (λ p. ts ≡ a_name p.0 ∷ (new_tokens p.1.0 ++ a_keyword keyword.Where ∷ p.1.1)) same front;
+      written = subst
+          (λ p. ts ≡ a_name p.0 ∷ (new_tokens p.1.0 ++ a_keyword keyword.Where ∷ p.1.1)) same front;
       assigns = a.1;
       filters = document_sound s f.0.1.1 j.0 j.1;
       means = sym (some_is (change_judged a.0 j.0) c j.2);
     }
 
-pub change_complete : (s : Specification) (ts : List Seen) (c : JudgedChange) → SpellsChangeJudged s ts c → change_document s ts ≡ Some c
+pub change_complete : (s : Specification) (ts : List Seen) (c : JudgedChange)
+    → SpellsChangeJudged s ts c → change_document s ts ≡ Some c
 unfolding change_document
 change_complete s ts c w =
     let f : assignment_tokens_at ts ≡ Some (w.name, (w.given, w.rest)) =
     ap assignment_tokens_at w.written ∙ front_found w.name w.given w.rest w.formed in
-    rw (f, w.assigns, document_complete s w.rest w.filter w.filters) (ap (λ z. Some z) (sym w.means))
+    rw (f, w.assigns, document_complete s w.rest w.filter w.filters)
+    (ap (λ z. Some z) (sym w.means))
 
-pub change_suits : (s : Specification) (ts : List Seen) (c : JudgedChange) → are_utf8 ts ≡ true → change_document s ts ≡ Some c
+pub change_suits : (s : Specification) (ts : List Seen) (c : JudgedChange) → are_utf8 ts ≡ true
+    → change_document s ts ≡ Some c
     → c.faults ≡ faultless → Suits s c.meaning
 change_suits s ts c u h e =
     let w = change_sound s ts c h in
-    let v : are_utf8 (new_tokens w.given ++ a_keyword keyword.Where ∷ w.rest) ≡ true = ap are_utf8 (sym w.written) ∙ u in
+    let v : are_utf8 (new_tokens w.given ++ a_keyword keyword.Where ∷ w.rest) ≡ true =
+    ap are_utf8 (sym w.written) ∙ u in
     let r = joined_utf8 (new_tokens w.given) (a_keyword keyword.Where ∷ w.rest) v in
-    let f = first_faultless w.assignment.faults w.filter.faults (ap (λ x. x.faults) (sym w.means) ∙ e) in
+    let f = first_faultless w.assignment.faults w.filter.faults
+    (ap (λ x. x.faults) (sym w.means) ∙ e) in
     subst (λ x. Suits s x.meaning) (sym w.means) (spelled_suits s w.rest w.filter r.1 w.filters f.1)

@@ -1,5 +1,7 @@
 -- A date is ten bytes that instants are spelled with, the first a digit.
-use Rattle.std.proofs.Common.{◌≡◌, ℕ, zero, suc, ◌+◌, ◌<◌, Bool, true, false, ◌&&◌, ◌||◌, ◌==◌, cond, List, [], ◌∷◌, ◌++◌, length, take, drop, slice_index, slice_range, refl, sym, ap, ◌∙◌, subst, arith, eqb-true}
+use Rattle.std.proofs.Common.{◌≡◌, ℕ, zero, suc, ◌+◌, ◌<◌, Bool, true, false, ◌&&◌, ◌||◌, ◌==◌}
+use Rattle.std.proofs.Common.{cond, List, [], ◌∷◌, ◌++◌, length, take, drop, slice_index}
+use Rattle.std.proofs.Common.{slice_range, refl, sym, ap, ◌∙◌, subst, arith, eqb-true}
 use Rattle.std.specs.List.{list_all, prefix_len}
 use Rattle.std.specs.Char.{is_ascii_digit}
 use Rattle.std.proofs.lemmas.Bool.Decides.{nat_tests}
@@ -22,13 +24,18 @@ join : (x y : Bool) → x ≡ true → y ≡ true → (x && y) ≡ true
 join x y e f = rw (e, f) refl
 
 ten_long : (s : List ℕ) → has_date_form s ≡ true → length s ≡ 10
-ten_long s is = eqb-true (length s) 10 (both (length s == 10) _ (both ((length s == 10) && ((slice_index s 4 == 45) && (slice_index s 7 == 45))) _ is).0).0
+ten_long s is =
+    eqb-true (length s) 10
+    (both (length s == 10) _
+    (both ((length s == 10) && ((slice_index s 4 == 45) && (slice_index s 7 == 45))) _
+    is).0).0
 
 -- of two tests in a row
 first_two : (p : ℕ → Bool) (x y : ℕ) → list_all p (x ∷ y ∷ []) ≡ true → (p x ≡ true) × (p y ≡ true)
 first_two p x y e = let k = both (p x) (list_all p (y ∷ [])) e in (k.0, (both (p y) true k.1).0)
 
-first_four : (p : ℕ → Bool) (x y z w : ℕ) → list_all p (x ∷ y ∷ z ∷ w ∷ []) ≡ true → (p x ≡ true) × (p y ≡ true) × (p z ≡ true) × (p w ≡ true)
+first_four : (p : ℕ → Bool) (x y z w : ℕ) → list_all p (x ∷ y ∷ z ∷ w ∷ []) ≡ true
+    → (p x ≡ true) × (p y ≡ true) × (p z ≡ true) × (p w ≡ true)
 first_four p x y z w e =
     let k = both (p x) (list_all p (y ∷ z ∷ w ∷ [])) e in
     let l = both (p y) (list_all p (z ∷ w ∷ [])) k.1 in
@@ -41,25 +48,44 @@ date_shape (a ∷ []) is = absurd (omega (arith, ten_long (a ∷ []) is))
 date_shape (a ∷ b ∷ []) is = absurd (omega (arith, ten_long (a ∷ b ∷ []) is))
 date_shape (a ∷ b ∷ c ∷ []) is = absurd (omega (arith, ten_long (a ∷ b ∷ c ∷ []) is))
 date_shape (a ∷ b ∷ c ∷ d ∷ []) is = absurd (omega (arith, ten_long (a ∷ b ∷ c ∷ d ∷ []) is))
-date_shape (a ∷ b ∷ c ∷ d ∷ e ∷ []) is = absurd (omega (arith, ten_long (a ∷ b ∷ c ∷ d ∷ e ∷ []) is))
-date_shape (a ∷ b ∷ c ∷ d ∷ e ∷ f ∷ []) is = absurd (omega (arith, ten_long (a ∷ b ∷ c ∷ d ∷ e ∷ f ∷ []) is))
-date_shape (a ∷ b ∷ c ∷ d ∷ e ∷ f ∷ g ∷ []) is = absurd (omega (arith, ten_long (a ∷ b ∷ c ∷ d ∷ e ∷ f ∷ g ∷ []) is))
-date_shape (a ∷ b ∷ c ∷ d ∷ e ∷ f ∷ g ∷ h ∷ []) is = absurd (omega (arith, ten_long (a ∷ b ∷ c ∷ d ∷ e ∷ f ∷ g ∷ h ∷ []) is))
-date_shape (a ∷ b ∷ c ∷ d ∷ e ∷ f ∷ g ∷ h ∷ i ∷ []) is = absurd (omega (arith, ten_long (a ∷ b ∷ c ∷ d ∷ e ∷ f ∷ g ∷ h ∷ i ∷ []) is))
+date_shape (a ∷ b ∷ c ∷ d ∷ e ∷ []) is =
+    absurd (omega (arith, ten_long (a ∷ b ∷ c ∷ d ∷ e ∷ []) is))
+date_shape (a ∷ b ∷ c ∷ d ∷ e ∷ f ∷ []) is =
+    absurd (omega (arith, ten_long (a ∷ b ∷ c ∷ d ∷ e ∷ f ∷ []) is))
+date_shape (a ∷ b ∷ c ∷ d ∷ e ∷ f ∷ g ∷ []) is =
+    absurd (omega (arith, ten_long (a ∷ b ∷ c ∷ d ∷ e ∷ f ∷ g ∷ []) is))
+date_shape (a ∷ b ∷ c ∷ d ∷ e ∷ f ∷ g ∷ h ∷ []) is =
+    absurd (omega (arith, ten_long (a ∷ b ∷ c ∷ d ∷ e ∷ f ∷ g ∷ h ∷ []) is))
+date_shape (a ∷ b ∷ c ∷ d ∷ e ∷ f ∷ g ∷ h ∷ i ∷ []) is =
+    absurd (omega (arith, ten_long (a ∷ b ∷ c ∷ d ∷ e ∷ f ∷ g ∷ h ∷ i ∷ []) is))
 date_shape (a ∷ b ∷ c ∷ d ∷ e ∷ f ∷ g ∷ h ∷ i ∷ j ∷ []) is =
-    let front = both ((e == 45) && (h == 45)) ((list_all is_ascii_digit (a ∷ b ∷ c ∷ d ∷ []) && list_all is_ascii_digit (f ∷ g ∷ [])) && list_all is_ascii_digit (i ∷ j ∷ [])) is in
+    let front = both ((e == 45) && (h == 45))
+    ((list_all is_ascii_digit (a ∷ b ∷ c ∷ d ∷ []) && list_all is_ascii_digit (f ∷ g ∷ []))
+    && list_all is_ascii_digit (i ∷ j ∷ [])) is in
     let dash = both (e == 45) (h == 45) front.0 in
-    let runs = both (list_all is_ascii_digit (a ∷ b ∷ c ∷ d ∷ []) && list_all is_ascii_digit (f ∷ g ∷ [])) (list_all is_ascii_digit (i ∷ j ∷ [])) front.1 in
-    let run = both (list_all is_ascii_digit (a ∷ b ∷ c ∷ d ∷ [])) (list_all is_ascii_digit (f ∷ g ∷ [])) runs.0 in
+    let runs = both
+    (list_all is_ascii_digit (a ∷ b ∷ c ∷ d ∷ []) && list_all is_ascii_digit (f ∷ g ∷ []))
+    (list_all is_ascii_digit (i ∷ j ∷ [])) front.1 in
+    let run = both (list_all is_ascii_digit (a ∷ b ∷ c ∷ d ∷ []))
+    (list_all is_ascii_digit (f ∷ g ∷ [])) runs.0 in
     let year = first_four is_ascii_digit a b c d run.0 in
     let month = first_two is_ascii_digit f g run.1 in
     let day = first_two is_ascii_digit i j runs.1 in
     record {
       len = refl;
-      all = join _ _ (digit_is a year.0) (join _ _ (digit_is b year.1) (join _ _ (digit_is c year.2) (join _ _ (digit_is d year.3) (join _ _ (dash_is e dash.0) (join _ _ (digit_is f month.0) (join _ _ (digit_is g month.1) (join _ _ (dash_is h dash.1) (join _ _ (digit_is i day.0) (join _ _ (digit_is j day.1) refl)))))))));
+      all = join _ _ (digit_is a year.0)
+          (join _ _ (digit_is b year.1)
+          (join _ _ (digit_is c year.2)
+          (join _ _ (digit_is d year.3)
+          (join _ _ (dash_is e dash.0)
+          (join _ _ (digit_is f month.0)
+          (join _ _ (digit_is g month.1)
+          (join _ _ (dash_is h dash.1)
+          (join _ _ (digit_is i day.0) (join _ _ (digit_is j day.1) refl)))))))));
       starts = year.0;
     }
-date_shape (a ∷ b ∷ c ∷ d ∷ e ∷ f ∷ g ∷ h ∷ i ∷ j ∷ k ∷ rest) is = absurd (omega (arith, ten_long (a ∷ b ∷ c ∷ d ∷ e ∷ f ∷ g ∷ h ∷ i ∷ j ∷ k ∷ rest) is))
+date_shape (a ∷ b ∷ c ∷ d ∷ e ∷ f ∷ g ∷ h ∷ i ∷ j ∷ k ∷ rest) is =
+    absurd (omega (arith, ten_long (a ∷ b ∷ c ∷ d ∷ e ∷ f ∷ g ∷ h ∷ i ∷ j ∷ k ∷ rest) is))
 
 pub date_first : (s : List ℕ) → has_date_form s ≡ true → is_ascii_digit (slice_index s 0) ≡ true
 date_first [] is = absurd (cc)
@@ -70,15 +96,20 @@ take_more zero s rest e = refl
 take_more (suc k) [] rest e = absurd (omega (arith, e))
 take_more (suc k) (b ∷ s) rest e = ap (λ z. b ∷ z) (take_more k s rest (omega (arith, e)))
 
-take_run : (test : ℕ → Bool) (k : ℕ) (s : List ℕ) → list_all test (take k s) ≡ true → take k (take (prefix_len test s) s) ≡ take k s
+take_run : (test : ℕ → Bool) (k : ℕ) (s : List ℕ) → list_all test (take k s) ≡ true
+    → take k (take (prefix_len test s) s) ≡ take k s
 take_run test zero s all = refl
 take_run test (suc k) [] all = refl
 take_run test (suc k) (b ∷ s) all =
     let each = both (test b) (list_all test (take k s)) all in
-    ap (λ t. take (suc k) (take (cond t (1 + prefix_len test s) 0) (b ∷ s))) each.0 ∙ ap (λ n. take (suc k) (take n (b ∷ s))) (more (prefix_len test s)) ∙ ap (λ z. b ∷ z) (take_run test k s each.1)
+    ap (λ t. take (suc k) (take (cond t (1 + prefix_len test s) 0) (b ∷ s))) each.0
+    ∙ ap (λ n. take (suc k) (take n (b ∷ s))) (more (prefix_len test s))
+    ∙ ap (λ z. b ∷ z) (take_run test k s each.1)
   where
     more : (n : ℕ) → 1 + n ≡ suc n
     more n = omega arith
 
-pub ten_ahead : (bytes : List ℕ) → has_date_form (take 10 bytes) ≡ true → has_date_form (take 10 (take (prefix_len is_instant_byte bytes) bytes)) ≡ true
-ten_ahead bytes e = ap has_date_form (take_run is_instant_byte 10 bytes (date_shape (take 10 bytes) e).all) ∙ e
+pub ten_ahead : (bytes : List ℕ) → has_date_form (take 10 bytes) ≡ true
+    → has_date_form (take 10 (take (prefix_len is_instant_byte bytes) bytes)) ≡ true
+ten_ahead bytes e =
+    ap has_date_form (take_run is_instant_byte 10 bytes (date_shape (take 10 bytes) e).all) ∙ e

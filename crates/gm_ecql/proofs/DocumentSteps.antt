@@ -1,5 +1,6 @@
 -- The exits of the parser of documents.
-use Rattle.std.proofs.Common.{◌≡◌, ℕ, Bool, true, false, not, ◌==◌, List, [], ◌∷◌, length, Option, Some, None, refl, sym, ◌∙◌, ap, subst, arith, eqb-true}
+use Rattle.std.proofs.Common.{◌≡◌, ℕ, Bool, true, false, not, ◌==◌, List, [], ◌∷◌, length, Option}
+use Rattle.std.proofs.Common.{Some, None, refl, sym, ◌∙◌, ap, subst, arith, eqb-true}
 use Rattle.gm_types.specs.Specification.{Specification}
 use Rattle.gm_ecql.specs.declared.halt.Halt.{Halt}
 use Rattle.gm_ecql.specs.declared.halt.Halt.TheVariants as halt
@@ -16,18 +17,24 @@ use Rattle.gm_ecql.proofs.TestFirst.{no_some}
 use Rattle.gm_ecql.proofs.Turns.{halts_then}
 
 module _ (s : Specification) (ts : List Seen) where
-  pub filter_halts : (e : Halt) → Halts (filter_with (factor_at s (length ts)) (length ts) ts) e → Halts (document s ts) e
-  filter_halts e h = halts_then (λ j. if_last j.0 j.1) (filter_with (factor_at s (length ts)) (length ts) ts) e h
+  pub filter_halts : (e : Halt) → Halts (filter_with (factor_at s (length ts)) (length ts) ts) e
+      → Halts (document s ts) e
+  filter_halts e h =
+      halts_then (λ j. if_last j.0 j.1) (filter_with (factor_at s (length ts)) (length ts) ts) e h
 
-  pub none_is : (e : Halt) → Halts (document s ts) e → e ≡ halt.Syntax → (j : Judged) → SpellsJudged s ts j → ⊥
-  none_is e h same j w = no_some j (sym (subst (λ z. Halts (document s ts) z) same h) ∙ document_complete s ts j w)
+  pub none_is : (e : Halt) → Halts (document s ts) e → e ≡ halt.Syntax → (j : Judged)
+      → SpellsJudged s ts j → ⊥
+  none_is e h same j w =
+      no_some j (sym (subst (λ z. Halts (document s ts) z) same h) ∙ document_complete s ts j w)
 
-  pub more_is : (j : Judged) (rest : List Spaced) → filter_with (factor_at s (length ts)) (length ts) ts ≡ Some (j, seen_all rest)
+  pub more_is : (j : Judged) (rest : List Spaced)
+      → filter_with (factor_at s (length ts)) (length ts) ts ≡ Some (j, seen_all rest)
       → (x : Bool) → x ≡ (length rest == 0) → x ≡ false → document s ts ≡ None
   more_is j [] h x e f = absurd (cc)
   more_is j (t ∷ rest) h x e f = ap (λ o. o >>= (λ j. if_last j.0 j.1)) h
 
-  pub found_is : (j : Judged) (rest : List Spaced) → filter_with (factor_at s (length ts)) (length ts) ts ≡ Some (j, seen_all rest)
+  pub found_is : (j : Judged) (rest : List Spaced)
+      → filter_with (factor_at s (length ts)) (length ts) ts ≡ Some (j, seen_all rest)
       → (x : Bool) → x ≡ (length rest == 0) → x ≡ true → SpellsJudged s ts j
   found_is j [] h x e f = document_sound s ts j (ap (λ o. o >>= (λ j. if_last j.0 j.1)) h)
   found_is j (t ∷ rest) h x e f = absurd (omega (arith, eqb-true (length (t ∷ rest)) 0 (sym e ∙ f)))

@@ -1,5 +1,7 @@
--- What the reader cites of documents: what is read is spelled so, what is spelled is read, and without a fault it suits.
-use Rattle.std.proofs.Common.{◌≡◌, ℕ, Bool, true, false, ◌&&◌, List, [], ◌∷◌, Some, refl, sym, ◌∙◌, ap}
+-- What the reader cites of documents: what is read is spelled so, what is spelled is read, and
+-- without a fault it suits.
+use Rattle.std.proofs.Common.{◌≡◌, ℕ, Bool, true, false, ◌&&◌, List, [], ◌∷◌, Some, refl, sym, ◌∙◌}
+use Rattle.std.proofs.Common.{ap}
 use Rattle.std.proofs.lemmas.Str.{is_utf8-from_IsUtf8}
 use Rattle.gm_types.specs.Specification.{Specification}
 use Rattle.gm_filter.specs.Suits.{Suits}
@@ -7,7 +9,8 @@ use Rattle.gm_ecql.specs.Change.{JudgedChange, SpellsChangeJudged, change_docume
 use Rattle.gm_ecql.specs.Grammar.{SpellsJudged}
 use Rattle.gm_ecql.specs.Judging.{Judged, faultless}
 use Rattle.gm_ecql.specs.Parsing.{document}
-use Rattle.gm_ecql.specs.Tokens.{Seen, a_keyword, a_name, a_text, an_instant, a_number, a_symbol, IsPiece, Spells, SpellsTokens, unspaced}
+use Rattle.gm_ecql.specs.Tokens.{Seen, a_keyword, a_name, a_text, an_instant, a_number, a_symbol}
+use Rattle.gm_ecql.specs.Tokens.{IsPiece, Spells, SpellsTokens, unspaced}
 use Rattle.gm_ecql.proofs.ChangesRead as changes
 use Rattle.gm_ecql.proofs.GrammarFound as found
 use Rattle.gm_ecql.proofs.GrammarSound as sound
@@ -26,28 +29,37 @@ piece_utf8 (an_instant at) piece rest p = refl
 piece_utf8 (a_number bytes) piece rest p = refl
 piece_utf8 (a_symbol s) piece rest p = refl
 
-pieces_utf8 : (bytes : List ℕ) (ts : List (Bool × Seen)) → Spells bytes ts → suiting.are_utf8 (unspaced ts) ≡ true
+pieces_utf8 : (bytes : List ℕ) (ts : List (Bool × Seen)) → Spells bytes ts
+    → suiting.are_utf8 (unspaced ts) ≡ true
 pieces_utf8 bytes [] s = refl
 pieces_utf8 bytes (t ∷ ts) s =
-    ap (λ x. x && suiting.are_utf8 (unspaced ts)) (piece_utf8 t.1 s.1.piece s.0 s.1.spelled) ∙ pieces_utf8 s.0 ts s.2
+    ap (λ x. x && suiting.are_utf8 (unspaced ts)) (piece_utf8 t.1 s.1.piece s.0 s.1.spelled)
+    ∙ pieces_utf8 s.0 ts s.2
 
-pub spelled_utf8 : (text : List ℕ) (ts : List (Bool × Seen)) → SpellsTokens text ts → are_utf8 (unspaced ts) ≡ true
+pub spelled_utf8 : (text : List ℕ) (ts : List (Bool × Seen)) → SpellsTokens text ts
+    → are_utf8 (unspaced ts) ≡ true
 spelled_utf8 text ts s = pieces_utf8 text ts s.spelled
 
-pub document_sound : (s : Specification) (ts : List Seen) (j : Judged) → document s ts ≡ Some j → SpellsJudged s ts j
+pub document_sound : (s : Specification) (ts : List Seen) (j : Judged) → document s ts ≡ Some j
+    → SpellsJudged s ts j
 document_sound s ts j h = sound.document_sound s ts j h
 
-pub document_complete : (s : Specification) (ts : List Seen) (j : Judged) → SpellsJudged s ts j → document s ts ≡ Some j
+pub document_complete : (s : Specification) (ts : List Seen) (j : Judged) → SpellsJudged s ts j
+    → document s ts ≡ Some j
 document_complete s ts j h = found.document_complete s ts j h
 
-pub document_suits : (s : Specification) (ts : List Seen) (j : Judged) → are_utf8 ts ≡ true → document s ts ≡ Some j → j.faults ≡ faultless → Suits s j.meaning
+pub document_suits : (s : Specification) (ts : List Seen) (j : Judged) → are_utf8 ts ≡ true
+    → document s ts ≡ Some j → j.faults ≡ faultless → Suits s j.meaning
 document_suits s ts j u h e = suiting.spelled_suits s ts j u (sound.document_sound s ts j h) e
 
-pub change_sound : (s : Specification) (ts : List Seen) (c : JudgedChange) → change_document s ts ≡ Some c → SpellsChangeJudged s ts c
+pub change_sound : (s : Specification) (ts : List Seen) (c : JudgedChange)
+    → change_document s ts ≡ Some c → SpellsChangeJudged s ts c
 change_sound s ts c h = changes.change_sound s ts c h
 
-pub change_complete : (s : Specification) (ts : List Seen) (c : JudgedChange) → SpellsChangeJudged s ts c → change_document s ts ≡ Some c
+pub change_complete : (s : Specification) (ts : List Seen) (c : JudgedChange)
+    → SpellsChangeJudged s ts c → change_document s ts ≡ Some c
 change_complete s ts c h = changes.change_complete s ts c h
 
-pub change_suits : (s : Specification) (ts : List Seen) (c : JudgedChange) → are_utf8 ts ≡ true → change_document s ts ≡ Some c → c.faults ≡ faultless → Suits s c.meaning
+pub change_suits : (s : Specification) (ts : List Seen) (c : JudgedChange) → are_utf8 ts ≡ true
+    → change_document s ts ≡ Some c → c.faults ≡ faultless → Suits s c.meaning
 change_suits s ts c u h e = changes.change_suits s ts c u h e

@@ -1,5 +1,8 @@
 -- Texts laid out as lexemes: a blank or none, and the piece of a token.
-use Rattle.std.proofs.Common.{◌≡◌, ℕ, zero, suc, ◌+◌, ◌<◌, ◌≤◌, Bool, true, false, not, ◌&&◌, ◌||◌, ◌==◌, cond, List, [], ◌∷◌, ◌++◌, map, length, take, drop, Option, Some, None, refl, sym, ◌∙◌, ap, subst, arith, append_assoc, append-nil, ◌⊎◌, inl, inr}
+use Rattle.std.proofs.Common.{◌≡◌, ℕ, zero, suc, ◌+◌, ◌<◌, ◌≤◌, Bool, true, false, not, ◌&&◌, ◌||◌}
+use Rattle.std.proofs.Common.{◌==◌, cond, List, [], ◌∷◌, ◌++◌, map, length, take, drop, Option}
+use Rattle.std.proofs.Common.{Some, None, refl, sym, ◌∙◌, ap, subst, arith, append_assoc}
+use Rattle.std.proofs.Common.{append-nil, ◌⊎◌, inl, inr}
 use Rattle.std.specs.Prelude.{ℤ}
 use Rattle.std.specs.List.{list_all}
 use Rattle.std.proofs.lemmas.Bool.Decides.{nat_tests}
@@ -8,7 +11,10 @@ use Rattle.gm_ecql.specs.declared.keyword.Keyword.{Keyword}
 use Rattle.gm_ecql.specs.declared.token.Symbol.{Symbol}
 use Rattle.gm_ecql.specs.declared.token.Symbol.TheVariants as symbol
 use Rattle.gm_ecql.specs.Limits.{is_number, are_apart_behind, are_numbers_apart}
-use Rattle.gm_ecql.specs.Tokens.{Seen, a_keyword, a_name, a_text, an_instant, a_number, a_symbol, is_blank, is_word_byte, is_single, is_number_tail, is_less_tail, is_more_tail, Stops, IsPiece, IsFirst, Spells, SpellsTokens, IsUnspaced, symbol_text, unspaced}
+use Rattle.gm_ecql.specs.Tokens.{Seen, a_keyword, a_name, a_text, an_instant, a_number, a_symbol}
+use Rattle.gm_ecql.specs.Tokens.{is_blank, is_word_byte, is_single, is_number_tail, is_less_tail}
+use Rattle.gm_ecql.specs.Tokens.{is_more_tail, Stops, IsPiece, IsFirst, Spells, SpellsTokens}
+use Rattle.gm_ecql.specs.Tokens.{IsUnspaced, symbol_text, unspaced}
 
 pub record Lexeme : Type 0 where
   pub blank : Bool
@@ -38,7 +44,8 @@ tight (l ∷ ls) = is_number l.token && not l.blank
 
 abbrev pub AreSpelled : List Lexeme → Type 0
 AreSpelled [] = Unit {0}
-AreSpelled (l ∷ ls) = IsPiece l.piece l.token (text_of ls) × ((is_number l.token && tight ls) ≡ false) × AreSpelled ls
+AreSpelled (l ∷ ls) =
+    IsPiece l.piece l.token (text_of ls) × ((is_number l.token && tight ls) ≡ false) × AreSpelled ls
 
 -- bytes that end each piece: a blank, brackets, a comma and a slash
 abbrev pub is_end : ℕ → Bool
@@ -73,15 +80,36 @@ pub lexed : (ls : List Lexeme) → AreSpelled ls → Spells (text_of ls) (spaced
 lexed [] p = refl
 lexed (l ∷ ls) p = (text_of ls, first l.blank p.0, lexed ls p.2)
   where
-    first : (b : Bool) → IsPiece l.piece l.token (text_of ls) → IsFirst (lead b ++ (l.piece ++ text_of ls)) b l.token (text_of ls)
-    first true q = record { blanks = 32 ∷ []; piece = l.piece; written = refl; blank = refl; told = refl; spelled = q }
-    first false q = record { blanks = []; piece = l.piece; written = refl; blank = refl; told = refl; spelled = q }
+    first : (b : Bool) → IsPiece l.piece l.token (text_of ls)
+        → IsFirst (lead b ++ (l.piece ++ text_of ls)) b l.token (text_of ls)
+    first true q =
+        record {
+          blanks = 32 ∷ [];
+          piece = l.piece;
+          written = refl;
+          blank = refl;
+          told = refl;
+          spelled = q;
+        }
+    first false q =
+        record {
+          blanks = [];
+          piece = l.piece;
+          written = refl;
+          blank = refl;
+          told = refl;
+          spelled = q;
+        }
 
-apart_behind : (behind : Bool) (ls : List Lexeme) → AreSpelled ls → (behind && tight ls) ≡ false → are_apart_behind behind (spaced_of ls) ≡ true
+apart_behind : (behind : Bool) (ls : List Lexeme) → AreSpelled ls → (behind && tight ls) ≡ false
+    → are_apart_behind behind (spaced_of ls) ≡ true
 apart_behind behind [] p h = refl
-apart_behind behind (l ∷ ls) p h = by_first behind (is_number l.token) l.blank h ∙ apart_behind (is_number l.token) ls p.2 p.1
+apart_behind behind (l ∷ ls) p h =
+    by_first behind (is_number l.token) l.blank h ∙ apart_behind (is_number l.token) ls p.2 p.1
   where
-    by_first : (x y z : Bool) → (x && (y && not z)) ≡ false → (not (y && (x && not z)) && are_apart_behind y (spaced_of ls)) ≡ are_apart_behind y (spaced_of ls)
+    by_first : (x y z : Bool) → (x && (y && not z)) ≡ false
+        → (not (y && (x && not z)) && are_apart_behind y (spaced_of ls))
+        ≡ are_apart_behind y (spaced_of ls)
     by_first true true true h = refl
     by_first true true false h = absurd (cc)
     by_first true false z h = refl
@@ -106,7 +134,8 @@ pub record Lexed (b : Bool) (bytes : List ℕ) (tokens : List Seen) : Type 0 whe
   pub calm : (after : List Lexeme) → tight after ≡ false → tight (lexemes ++ after) ≡ false
 
 -- a piece that each end ends
-pub one : (b : Bool) (piece : List ℕ) (t : Seen) → is_number t ≡ false → ((rest : List ℕ) → Ends rest → IsPiece piece t rest) → Lexed b piece (t ∷ [])
+pub one : (b : Bool) (piece : List ℕ) (t : Seen) → is_number t ≡ false
+    → ((rest : List ℕ) → Ends rest → IsPiece piece t rest) → Lexed b piece (t ∷ [])
 one b piece t n p = record {
   lexemes = record { blank = b; piece = piece; token = t } ∷ [];
   tokens_are = refl;

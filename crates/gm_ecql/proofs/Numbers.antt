@@ -1,11 +1,16 @@
 -- A number goes on over all of its bytes, and ends behind none of its e's.
-use Rattle.std.proofs.Common.{◌≡◌, ℕ, zero, suc, ◌+◌, ◌<◌, ◌≤◌, Bool, true, false, ◌&&◌, ◌||◌, ◌==◌, nat_le, cond, List, [], ◌∷◌, ◌++◌, length, take, drop, slice_index, Option, Some, None, option_map, refl, sym, ap, ◌∙◌, subst, arith, eqb-true, ◌⊎◌, inl, inr}
+use Rattle.std.proofs.Common.{◌≡◌, ℕ, zero, suc, ◌+◌, ◌<◌, ◌≤◌, Bool, true, false, ◌&&◌, ◌||◌, ◌==◌}
+use Rattle.std.proofs.Common.{nat_le, cond, List, [], ◌∷◌, ◌++◌, length, take, drop, slice_index}
+use Rattle.std.proofs.Common.{Option, Some, None, option_map, refl, sym, ap, ◌∙◌, subst, arith}
+use Rattle.std.proofs.Common.{eqb-true, ◌⊎◌, inl, inr}
 use Rattle.std.specs.Prelude.{IsSome, slice_index}
 use Rattle.std.specs.List.{list_all, prefix_len}
 use Rattle.std.specs.Char.{is_ascii_digit}
 use Rattle.std.specs.Str.Parse.{without_leading_sign, without_leading_plus, starts_with_minus}
 use Rattle.std.proofs.lemmas.Bool.Decides.{nat_tests}
-use Rattle.gm_geom.specs.Number.{number_of, digits_at, behind_digits, has_point, fraction_at, behind_fraction, is_exponent, marked_exponent, exponent_of, mantissa_number, unsigned_number}
+use Rattle.gm_geom.specs.Number.{number_of, digits_at, behind_digits, has_point, fraction_at}
+use Rattle.gm_geom.specs.Number.{behind_fraction, is_exponent, marked_exponent, exponent_of}
+use Rattle.gm_geom.specs.Number.{mantissa_number, unsigned_number}
 use Rattle.gm_ecql.specs.Tokens.{Stops, is_sign, is_number_tail}
 use Rattle.gm_ecql.specs.Scanning.{is_e, goes_on, number_end}
 use Rattle.gm_ecql.proofs.Scans.{both}
@@ -28,12 +33,17 @@ joined_ascii (b ∷ bs) sign j (suc i) = joined_ascii bs (is_e b) j.1 i
 no_tail : (b : ℕ) → is_number_tail b ≡ false → goes_on false b ≡ false
 no_tail b e = rw e refl
 
-pub joined_end : (bs rest : List ℕ) (sign : Bool) → Joins sign bs → Stops is_number_tail rest → number_end 0 sign (bs ++ rest) ≡ length bs
+pub joined_end : (bs rest : List ℕ) (sign : Bool) → Joins sign bs → Stops is_number_tail rest
+    → number_end 0 sign (bs ++ rest) ≡ length bs
 unfolding number_end
 joined_end [] [] sign j s = refl
-joined_end [] (b ∷ rest) sign j s = ap (λ x. cond (goes_on x b) (number_end (0 + 1) (is_e b) rest) 0) j ∙ ap (λ x. cond x (number_end (0 + 1) (is_e b) rest) 0) (no_tail b s)
+joined_end [] (b ∷ rest) sign j s =
+    ap (λ x. cond (goes_on x b) (number_end (0 + 1) (is_e b) rest) 0) j
+    ∙ ap (λ x. cond x (number_end (0 + 1) (is_e b) rest) 0) (no_tail b s)
 joined_end (b ∷ bs) rest sign j s =
-    ap (λ x. cond x (number_end (0 + 1) (is_e b) (bs ++ rest)) 0) j.0 ∙ end_from (bs ++ rest) (0 + 1) (is_e b) ∙ ap (λ n. 0 + 1 + n) (joined_end bs rest (is_e b) j.1 s) ∙ omega arith
+    ap (λ x. cond x (number_end (0 + 1) (is_e b) (bs ++ rest)) 0) j.0
+    ∙ end_from (bs ++ rest) (0 + 1) (is_e b)
+    ∙ ap (λ n. 0 + 1 + n) (joined_end bs rest (is_e b) j.1 s) ∙ omega arith
 
 digit_goes_on : (sign : Bool) (b : ℕ) → is_ascii_digit b ≡ true → goes_on sign b ≡ true
 digit_goes_on sign b e = grind (arith, nat_tests)
@@ -44,20 +54,34 @@ digit_no_e b e = grind (arith, nat_tests)
 -- digits in front of what joins
 digits_join : (bytes : List ℕ) → Joins false (behind_digits bytes) → Joins false bytes
 digits_join [] = λ j. j
-digits_join (b ∷ bs) = elim (is_ascii_digit b) as (λ x. is_ascii_digit b ≡ x → Joins false (drop (cond x (1 + prefix_len is_ascii_digit bs) 0) (b ∷ bs)) → Joins false (b ∷ bs)) [
-  | true ↦ λ e j. (digit_goes_on false b e, subst (λ t. Joins t bs) (sym (digit_no_e b e)) (digits_join bs (subst (λ n. Joins false (drop n (b ∷ bs))) (more (prefix_len is_ascii_digit bs)) j)))
-  | false ↦ λ e j. j
-] refl
+digits_join (b ∷ bs) =
+    elim (is_ascii_digit b) as
+    (λ x. is_ascii_digit b ≡ x
+    → Joins false (drop (cond x (1 + prefix_len is_ascii_digit bs) 0) (b ∷ bs))
+    → Joins false (b ∷ bs)) [
+      | true ↦ λ e j. (
+        digit_goes_on false b e,
+        subst (λ t. Joins t bs) (sym (digit_no_e b e))
+            (digits_join bs
+            (subst (λ n. Joins false (drop n (b ∷ bs)))
+            (more (prefix_len is_ascii_digit bs)) j)),
+      )
+      | false ↦ λ e j. j
+    ] refl
   where
     more : (n : ℕ) → 1 + n ≡ suc n
     more n = omega arith
 
 point_joins : (bytes : List ℕ) → Joins false (behind_fraction bytes) → Joins false bytes
 point_joins [] = λ j. refl
-point_joins (b ∷ bs) = elim (b == 46) as (λ x. (b == 46) ≡ x → Joins false (cond x (behind_digits (drop 1 (b ∷ bs))) (b ∷ bs)) → Joins false (b ∷ bs)) [
-  | true ↦ λ e j. subst (λ z. Joins false (z ∷ bs)) (sym (eqb-true b 46 e)) (refl, digits_join bs j)
-  | false ↦ λ e j. j
-] refl
+point_joins (b ∷ bs) =
+    elim (b == 46) as
+    (λ x. (b == 46) ≡ x → Joins false (cond x (behind_digits (drop 1 (b ∷ bs))) (b ∷ bs))
+    → Joins false (b ∷ bs)) [
+      | true ↦ λ e j. subst (λ z. Joins false (z ∷ bs)) (sym (eqb-true b 46 e))
+          (refl, digits_join bs j)
+      | false ↦ λ e j. j
+    ] refl
 
 -- where nothing is wanted of the first byte, a sign may also stand
 free_sign : (bytes : List ℕ) → 0 < length bytes → Joins false bytes → Joins true bytes
@@ -71,19 +95,27 @@ free_sign (b ∷ bs) some j = (also (is_number_tail b) (is_sign b) j.0, j.1)
 all_digits : (bytes : List ℕ) → list_all is_ascii_digit bytes ≡ true → Joins false bytes
 all_digits [] all = refl
 all_digits (b ∷ bs) all =
-    let each = both (is_ascii_digit b) (list_all is_ascii_digit bs) all in
-    (digit_goes_on false b each.0, subst (λ t. Joins t bs) (sym (digit_no_e b each.0)) (all_digits bs each.1))
+    let each = both (is_ascii_digit b) (list_all is_ascii_digit bs) all in (
+      digit_goes_on false b each.0,
+      subst (λ t. Joins t bs) (sym (digit_no_e b each.0)) (all_digits bs each.1),
+    )
 
 -- behind the sign
-unsigned_joins : (bytes : List ℕ) → 0 < length (without_leading_sign bytes) → Joins false (without_leading_sign bytes) → Joins true bytes
+unsigned_joins : (bytes : List ℕ) → 0 < length (without_leading_sign bytes)
+    → Joins false (without_leading_sign bytes) → Joins true bytes
 unsigned_joins [] = λ some j. absurd (omega (arith, some))
-unsigned_joins (b ∷ bs) = elim (b == 45) as (λ x. (b == 45) ≡ x → 0 < length (cond x bs (without_leading_plus (b ∷ bs))) → Joins false (cond x bs (without_leading_plus (b ∷ bs))) → Joins true (b ∷ bs)) [
-  | true ↦ λ e some j. subst (λ z. Joins true (z ∷ bs)) (sym (eqb-true b 45 e)) (refl, j)
-  | false ↦ λ e. elim (b == 43) as (λ x. (b == 43) ≡ x → 0 < length (drop (cond x 1 0) (b ∷ bs)) → Joins false (drop (cond x 1 0) (b ∷ bs)) → Joins true (b ∷ bs)) [
-    | true ↦ λ e some j. subst (λ z. Joins true (z ∷ bs)) (sym (eqb-true b 43 e)) (refl, j)
-    | false ↦ λ e some j. free_sign (b ∷ bs) some j
-  ] refl
-] refl
+unsigned_joins (b ∷ bs) =
+    elim (b == 45) as
+    (λ x. (b == 45) ≡ x → 0 < length (cond x bs (without_leading_plus (b ∷ bs)))
+    → Joins false (cond x bs (without_leading_plus (b ∷ bs))) → Joins true (b ∷ bs)) [
+      | true ↦ λ e some j. subst (λ z. Joins true (z ∷ bs)) (sym (eqb-true b 45 e)) (refl, j)
+      | false ↦ λ e. elim (b == 43) as
+          (λ x. (b == 43) ≡ x → 0 < length (drop (cond x 1 0) (b ∷ bs))
+          → Joins false (drop (cond x 1 0) (b ∷ bs)) → Joins true (b ∷ bs)) [
+            | true ↦ λ e some j. subst (λ z. Joins true (z ∷ bs)) (sym (eqb-true b 43 e)) (refl, j)
+            | false ↦ λ e some j. free_sign (b ∷ bs) some j
+          ] refl
+    ] refl
 
 no_number : (N P : Type 0) → IsSome {T = N} None → P
 no_number N P h = absurd (cc)
@@ -100,7 +132,9 @@ marked_joins bytes h =
     let d = without_leading_sign bytes in
     let is = (some_then (is_exponent d) _ h).0 in
     let each = both (nat_le 1 (length d) && nat_le (length d) 3) (list_all is_ascii_digit d) is in
-    unsigned_joins bytes (at_least (length d) (both (nat_le 1 (length d)) (nat_le (length d) 3) each.0).0) (all_digits d each.1)
+    unsigned_joins bytes
+    (at_least (length d) (both (nat_le 1 (length d)) (nat_le (length d) 3) each.0).0)
+    (all_digits d each.1)
 
 exponent_joins : (bytes : List ℕ) → IsSome (exponent_of bytes) → Joins false bytes
 exponent_joins [] h = refl
@@ -116,23 +150,30 @@ mapped {B = B} f None h = no_number B _ h
 mapped f (Some x) h = refl
 
 -- the mantissa has a digit, so there is a byte
-some_bytes : (bytes : List ℕ) → 1 ≤ length (digits_at bytes) + length (fraction_at (behind_digits bytes)) → 0 < length bytes
+some_bytes : (bytes : List ℕ)
+    → 1 ≤ length (digits_at bytes) + length (fraction_at (behind_digits bytes)) → 0 < length bytes
 some_bytes [] h = absurd (none h)
   where
     none : 1 ≤ length (digits_at []) + length (fraction_at (behind_digits [])) → ⊥
     none h = omega (arith, h)
 some_bytes (b ∷ bs) h = omega arith
 
-mantissa_joins : (negative : Bool) (bytes : List ℕ) → IsSome (unsigned_number negative bytes) → (0 < length bytes) × Joins false bytes
+mantissa_joins : (negative : Bool) (bytes : List ℕ) → IsSome (unsigned_number negative bytes)
+    → (0 < length bytes) × Joins false bytes
 mantissa_joins negative bytes h =
     let whole = digits_at bytes in
     let fraction = fraction_at (behind_digits bytes) in
     let p = some_then (nat_le 1 (length whole + length fraction)) _ h in
-    let e = mapped _ (exponent_of (behind_fraction (behind_digits bytes))) p.1 in
-    (some_bytes bytes (at_least (length whole + length fraction) p.0), digits_join bytes (point_joins (behind_digits bytes) (exponent_joins (behind_fraction (behind_digits bytes)) e)))
+    let e = mapped _ (exponent_of (behind_fraction (behind_digits bytes))) p.1 in (
+      some_bytes bytes (at_least (length whole + length fraction) p.0),
+      digits_join bytes
+          (point_joins (behind_digits bytes)
+          (exponent_joins (behind_fraction (behind_digits bytes)) e)),
+    )
 
 pub number_joins : (bytes : List ℕ) → IsSome (number_of bytes) → Joins true bytes
 number_joins bytes h =
-    let p = some_then (nat_le (length bytes) 38) (unsigned_number (starts_with_minus bytes) (without_leading_sign bytes)) h in
+    let p = some_then (nat_le (length bytes) 38)
+    (unsigned_number (starts_with_minus bytes) (without_leading_sign bytes)) h in
     let m = mantissa_joins (starts_with_minus bytes) (without_leading_sign bytes) p.1 in
     unsigned_joins bytes m.0 m.1

@@ -8,19 +8,23 @@ use Rattle.gm_ecql.specs.Change.{JudgedChange, change_document}
 use Rattle.gm_ecql.specs.Faults.{SpellsFilter, SpellsChange}
 use Rattle.gm_ecql.specs.Parsing.{document}
 use Rattle.gm_ecql.specs.Tokens.{unspaced}
-use Rattle.gm_ecql.proofs.Documents.{document_complete, change_complete, document_suits, spelled_utf8}
+use Rattle.gm_ecql.proofs.Documents.{document_complete, change_complete, document_suits}
+use Rattle.gm_ecql.proofs.Documents.{spelled_utf8}
 use Rattle.gm_ecql.proofs.Lists.{one_list}
 use Rattle.gm_ecql.proofs.TestFirst.{some_is}
 
-pub one_tree : (s : Specification) (text : List ℕ) (t u : Tree) → SpellsFilter s text t → SpellsFilter s text u → t ≡ u
+pub one_tree : (s : Specification) (text : List ℕ) (t u : Tree) → SpellsFilter s text t
+    → SpellsFilter s text u → t ≡ u
 one_tree s text t u a b =
     let e : a.tokens ≡ b.tokens = one_list text a.tokens b.tokens a.lexed.spelled b.lexed.spelled in
     let d = document_complete s (unspaced a.tokens) a.judged a.parsed.spelled in
     let f = document_complete s (unspaced b.tokens) b.judged b.parsed.spelled in
-    let same : a.judged ≡ b.judged = some_is a.judged b.judged (sym d ∙ ap (λ z. document s (unspaced z)) e ∙ f) in
+    let same : a.judged ≡ b.judged =
+    some_is a.judged b.judged (sym d ∙ ap (λ z. document s (unspaced z)) e ∙ f) in
     a.means ∙ ap (λ j. j.meaning) same ∙ sym b.means
 
-pub spelled_tree_suits : (s : Specification) (text : List ℕ) (t : Tree) → SpellsFilter s text t → Suits s t
+pub spelled_tree_suits : (s : Specification) (text : List ℕ) (t : Tree)
+    → SpellsFilter s text t → Suits s t
 spelled_tree_suits s text t a =
     subst (λ z. Suits s z) (sym a.means)
     (document_suits s (unspaced a.tokens) a.judged (spelled_utf8 text a.tokens a.lexed)

@@ -67,7 +67,9 @@ keyword_at_place k.MultiLineString = refl
 keyword_at_place k.MultiPolygon = refl
 
 pub same_keyword : (x y : Keyword) → eqb (keyword_place x) (keyword_place y) ≡ true → x ≡ y
-same_keyword x y h = sym (keyword_at_place x) ∙ ap keyword_at (eqb-true (keyword_place x) (keyword_place y) h) ∙ keyword_at_place y
+same_keyword x y h =
+    sym (keyword_at_place x) ∙ ap keyword_at (eqb-true (keyword_place x) (keyword_place y) h)
+    ∙ keyword_at_place y
 
 symbol_at : ℕ → Symbol
 symbol_at n =
@@ -96,4 +98,6 @@ symbol_at_place s.AtLeast = refl
 symbol_at_place s.Slash = refl
 
 pub same_symbol : (x y : Symbol) → eqb (symbol_place x) (symbol_place y) ≡ true → x ≡ y
-same_symbol x y h = sym (symbol_at_place x) ∙ ap symbol_at (eqb-true (symbol_place x) (symbol_place y) h) ∙ symbol_at_place y
+same_symbol x y h =
+    sym (symbol_at_place x) ∙ ap symbol_at (eqb-true (symbol_place x) (symbol_place y) h)
+    ∙ symbol_at_place y

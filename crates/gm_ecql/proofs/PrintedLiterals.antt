@@ -1,5 +1,7 @@
 -- Printed literals are pieces of their tokens, which stand for them again.
-use Rattle.std.proofs.Common.{◌≡◌, ℕ, ℤ, pos, negsuc, ◌<◌, ◌^◌, Bool, true, false, ◌&&◌, List, [], ◌∷◌, take, map, Option, Some, None, option_map, refl, sym, ◌∙◌, ap, subst, arith}
+use Rattle.std.proofs.Common.{◌≡◌, ℕ, ℤ, pos, negsuc, ◌<◌, ◌^◌, Bool, true, false, ◌&&◌, List, []}
+use Rattle.std.proofs.Common.{◌∷◌, take, map, Option, Some, None, option_map, refl, sym, ◌∙◌, ap}
+use Rattle.std.proofs.Common.{subst, arith}
 use Rattle.std.specs.List.{list_all}
 use Rattle.std.proofs.lemmas.Bool.Decides.{nat_tests}
 use Rattle.std.proofs.lemmas.Str.{IsUtf8-from_is_utf8}
@@ -34,10 +36,16 @@ pub record PrintsInstants : Type 0 where
   pub date : (at : ℤ) → IsInstant at → has_date_form (take 10 (instant_text at)) ≡ true
   pub bytes : (at : ℤ) → IsInstant at → list_all is_instant_byte (instant_text at) ≡ true
 
-pub instant_printed : PrintsInstants → (at : ℤ) → is_instant at ≡ true → Printed (instant_text at) (an_instant at)
+pub instant_printed : PrintsInstants → (at : ℤ) → is_instant at ≡ true
+    → Printed (instant_text at) (an_instant at)
 instant_printed f at h rest e =
     let is = f.tested at h in
-    record { date = f.date at is; all = f.bytes at is; ends = ends_instant rest e; spelled = f.reads at is }
+    record {
+      date = f.date at is;
+      all = f.bytes at is;
+      ends = ends_instant rest e;
+      spelled = f.reads at is;
+    }
 
 truth_printed : (b : Bool) → Printed (truth_text b) (literal_token (of_truth b))
 truth_printed true = keyword_piece keyword.True
@@ -57,8 +65,10 @@ wide (negsuc n) e = grind (arith, nat_tests)
 no : {P : Type 0} → false ≡ true → P
 no e = absurd (cc)
 
-pub literal_printed : PrintsInstants → (k : Kind) (l : Literal) → is_literal_of k l ≡ true → Printed (literal_text l) (literal_token (written_of l))
-literal_printed f kind.Text (literal.Text t) h = text_piece t (doubled_utf8 t (IsUtf8-from_is_utf8 t h))
+pub literal_printed : PrintsInstants → (k : Kind) (l : Literal) → is_literal_of k l ≡ true
+    → Printed (literal_text l) (literal_token (written_of l))
+literal_printed f kind.Text (literal.Text t) h =
+    text_piece t (doubled_utf8 t (IsUtf8-from_is_utf8 t h))
 literal_printed f kind.Text (literal.Number z) h = no h
 literal_printed f kind.Text (literal.Truth b) h = no h
 literal_printed f kind.Text (literal.Date at) h = no h
@@ -83,17 +93,20 @@ literal_printed f (kind.Geo g) (literal.Number z) h = no h
 literal_printed f (kind.Geo g) (literal.Truth b) h = no h
 literal_printed f (kind.Geo g) (literal.Date at) h = no h
 
-pub literal_means : (k : Kind) (l : Literal) → is_literal_of k l ≡ true → literal_of (is_date k) (written_of l) ≡ Some l
+pub literal_means : (k : Kind) (l : Literal) → is_literal_of k l ≡ true
+    → literal_of (is_date k) (written_of l) ≡ Some l
 literal_means kind.Text (literal.Text t) h = refl
 literal_means kind.Text (literal.Number z) h = no h
 literal_means kind.Text (literal.Truth b) h = no h
 literal_means kind.Text (literal.Date at) h = no h
 literal_means kind.Integer (literal.Text t) h = no h
-literal_means kind.Integer (literal.Number z) h = ap (option_map (λ z. literal.Number z)) (reads_again z (wide z h))
+literal_means kind.Integer (literal.Number z) h =
+    ap (option_map (λ z. literal.Number z)) (reads_again z (wide z h))
 literal_means kind.Integer (literal.Truth b) h = no h
 literal_means kind.Integer (literal.Date at) h = no h
 literal_means kind.Long (literal.Text t) h = no h
-literal_means kind.Long (literal.Number z) h = ap (option_map (λ z. literal.Number z)) (reads_again z h)
+literal_means kind.Long (literal.Number z) h =
+    ap (option_map (λ z. literal.Number z)) (reads_again z h)
 literal_means kind.Long (literal.Truth b) h = no h
 literal_means kind.Long (literal.Date at) h = no h
 literal_means kind.Boolean (literal.Text t) h = no h
@@ -109,13 +122,17 @@ literal_means (kind.Geo g) (literal.Number z) h = no h
 literal_means (kind.Geo g) (literal.Truth b) h = no h
 literal_means (kind.Geo g) (literal.Date at) h = no h
 
-pub literals_mean : (k : Kind) (ls : List Literal) → list_all (is_literal_of k) ls ≡ true → literals_of (is_date k) (map written_of ls) ≡ Some ls
+pub literals_mean : (k : Kind) (ls : List Literal) → list_all (is_literal_of k) ls ≡ true
+    → literals_of (is_date k) (map written_of ls) ≡ Some ls
 literals_mean k [] h = refl
 literals_mean k (l ∷ ls) h =
     let p = both (is_literal_of k l) (list_all (is_literal_of k) ls) h in
-    ap (λ o. add_first o (literals_of (is_date k) (map written_of ls))) (literal_means k l p.0) ∙ ap (add_first (Some l)) (literals_mean k ls p.1)
+    ap (λ o. add_first o (literals_of (is_date k) (map written_of ls))) (literal_means k l p.0)
+    ∙ ap (add_first (Some l)) (literals_mean k ls p.1)
 
-pub commas_written : (ls : List Literal) → by_commas literal_token (map written_of ls) ≡ by_commas (λ l. literal_token (written_of l)) ls
+pub commas_written : (ls : List Literal)
+    → by_commas literal_token (map written_of ls) ≡ by_commas (λ l. literal_token (written_of l)) ls
 commas_written [] = refl
 commas_written (l ∷ []) = refl
-commas_written (l ∷ m ∷ ms) = ap (λ z. literal_token (written_of l) ∷ comma ∷ z) (commas_written (m ∷ ms))
+commas_written (l ∷ m ∷ ms) =
+    ap (λ z. literal_token (written_of l) ∷ comma ∷ z) (commas_written (m ∷ ms))

@@ -1,5 +1,8 @@
 -- Printed numbers are pieces of numbers, before each end, and are read as they were.
-use Rattle.std.proofs.Common.{◌≡◌, ℕ, ℤ, pos, negsuc, zero, suc, ◌+◌, ◌<◌, ◌≤◌, Bool, true, false, not, ◌&&◌, ◌||◌, ◌==◌, cond, List, [], ◌∷◌, ◌++◌, length, take, drop, slice_index, Option, Some, None, option_map, Result, Ok, Err, refl, sym, ◌∙◌, ap, subst, arith, append-nil, eqb-true}
+use Rattle.std.proofs.Common.{◌≡◌, ℕ, ℤ, pos, negsuc, zero, suc, ◌+◌, ◌<◌, ◌≤◌, Bool, true, false}
+use Rattle.std.proofs.Common.{not, ◌&&◌, ◌||◌, ◌==◌, cond, List, [], ◌∷◌, ◌++◌, length, take, drop}
+use Rattle.std.proofs.Common.{slice_index, Option, Some, None, option_map, Result, Ok, Err, refl}
+use Rattle.std.proofs.Common.{sym, ◌∙◌, ap, subst, arith, append-nil, eqb-true}
 use Rattle.std.specs.Prelude.{IsSome, is_some, nat_le, ◌^◌}
 use Rattle.std.specs.List.{list_all, prefix_len}
 use Rattle.std.specs.Char.{is_ascii_digit}
@@ -8,7 +11,8 @@ use Rattle.std.specs.Str.Parse.{starts_with_minus, without_leading_sign}
 use Rattle.std.proofs.lemmas.Bool.{le-leb}
 use Rattle.std.proofs.lemmas.Bool.Decides.{nat_tests}
 use Rattle.gm_calendar.specs.Spelling.{has_date_form, is_instant_byte}
-use Rattle.gm_geom.specs.Number.{number_of, unsigned_number, digits_at, behind_digits, fixed_of, fixed_text, is_number_byte}
+use Rattle.gm_geom.specs.Number.{number_of, unsigned_number, digits_at, behind_digits, fixed_of}
+use Rattle.gm_geom.specs.Number.{fixed_text, is_number_byte}
 use Rattle.gm_ecql.specs.Tokens.{a_number, is_number_start, Starts, IsPiece}
 use Rattle.gm_ecql.proofs.Dates.{date_shape, date_first}
 use Rattle.gm_ecql.proofs.Lexemes.{Ends, is_end, ends_number}
@@ -28,16 +32,19 @@ end_no_instant b e h = absurd (grind (arith, nat_tests))
 
 -- none of the first bytes is a dash
 dash_at : (bytes rest : List ℕ) (i k : ℕ) → list_all is_no_dash bytes ≡ true → Ends rest
-    → list_all is_instant_byte (take k (bytes ++ rest)) ≡ true → length (take k (bytes ++ rest)) ≡ k → i < k
+    → list_all is_instant_byte (take k (bytes ++ rest)) ≡ true
+    → length (take k (bytes ++ rest)) ≡ k → i < k
     → slice_index (take k (bytes ++ rest)) i ≡ 45 → ⊥
 dash_at bytes rest i zero d e a l f h = absurd (omega arith)
 dash_at [] [] i (suc k) d e a l f h = absurd (omega (arith, l))
 dash_at [] (b ∷ bs) i (suc k) d e a l f h = end_no_instant b e (both (is_instant_byte b) _ a).0
 dash_at (b ∷ bs) rest zero (suc k) d e a l f h = dash_not b h (both (is_no_dash b) _ d).0
 dash_at (b ∷ bs) rest (suc i) (suc k) d e a l f h =
-    dash_at bs rest i k (both (is_no_dash b) _ d).1 e (both (is_instant_byte b) _ a).1 (omega (arith, l)) (omega arith) h
+    dash_at bs rest i k (both (is_no_dash b) _ d).1 e (both (is_instant_byte b) _ a).1
+    (omega (arith, l)) (omega arith) h
 
-plain_no_date : (bytes rest : List ℕ) → list_all is_no_dash bytes ≡ true → Ends rest → has_date_form (take 10 (bytes ++ rest)) ≡ false
+plain_no_date : (bytes rest : List ℕ) → list_all is_no_dash bytes ≡ true → Ends rest
+    → has_date_form (take 10 (bytes ++ rest)) ≡ false
 plain_no_date bytes rest d e = by_form (has_date_form (take 10 (bytes ++ rest))) refl
   where
     by_form : (x : Bool) → has_date_form (take 10 (bytes ++ rest)) ≡ x → x ≡ false
@@ -45,10 +52,12 @@ plain_no_date bytes rest d e = by_form (has_date_form (take 10 (bytes ++ rest)))
     by_form true h =
         let s = take 10 (bytes ++ rest) in
         let shape = date_shape s h in
-        let marks = both ((length s == 10) && ((slice_index s 4 == 45) && (slice_index s 7 == 45))) _ h in
+        let marks = both
+        ((length s == 10) && ((slice_index s 4 == 45) && (slice_index s 7 == 45))) _ h in
         let dashes = both (length s == 10) _ marks.0 in
         let at_four = both (slice_index s 4 == 45) (slice_index s 7 == 45) dashes.1 in
-        absurd (dash_at bytes rest 4 10 d e shape.all shape.len (omega arith) (eqb-true (slice_index s 4) 45 at_four.0))
+        absurd (dash_at bytes rest 4 10 d e shape.all shape.len (omega arith)
+        (eqb-true (slice_index s 4) 45 at_four.0))
 
 minus_no_date : (bytes rest : List ℕ) → has_date_form (take 10 ((45 ∷ bytes) ++ rest)) ≡ false
 minus_no_date bytes rest = by_form (has_date_form (take 10 ((45 ∷ bytes) ++ rest))) refl
@@ -65,19 +74,24 @@ abbrev pub IsSigned : List ℕ → Type 0
 IsSigned [] = ⊥
 IsSigned (b ∷ bs) = (is_number_start b ≡ true) × (list_all is_no_dash bs ≡ true)
 
-signed_no_date : (bytes rest : List ℕ) → IsSigned bytes → Ends rest → has_date_form (take 10 (bytes ++ rest)) ≡ false
+signed_no_date : (bytes rest : List ℕ) → IsSigned bytes → Ends rest
+    → has_date_form (take 10 (bytes ++ rest)) ≡ false
 signed_no_date [] rest s e = absurd s
 signed_no_date (b ∷ bs) rest s e = by_dash (b == 45) refl
   where
     by_dash : (x : Bool) → (b == 45) ≡ x → has_date_form (take 10 ((b ∷ bs) ++ rest)) ≡ false
-    by_dash true h = subst (λ z. has_date_form (take 10 ((z ∷ bs) ++ rest)) ≡ false) (sym (eqb-true b 45 h)) (minus_no_date bs rest)
-    by_dash false h = plain_no_date (b ∷ bs) rest (ap (λ x. not x && list_all is_no_dash bs) h ∙ s.1) e
+    by_dash true h =
+        subst (λ z. has_date_form (take 10 ((z ∷ bs) ++ rest)) ≡ false) (sym (eqb-true b 45 h))
+        (minus_no_date bs rest)
+    by_dash false h =
+        plain_no_date (b ∷ bs) rest (ap (λ x. not x && list_all is_no_dash bs) h ∙ s.1) e
 
 signed_starts : (bytes : List ℕ) → IsSigned bytes → Starts is_number_start bytes
 signed_starts [] s = absurd s
 signed_starts (b ∷ bs) s = s.0
 
-pub number_piece : (bytes : List ℕ) → IsSigned bytes → IsSome (number_of bytes) → (rest : List ℕ) → Ends rest → IsPiece bytes (a_number bytes) rest
+pub number_piece : (bytes : List ℕ) → IsSigned bytes → IsSome (number_of bytes) → (rest : List ℕ)
+    → Ends rest → IsPiece bytes (a_number bytes) rest
 number_piece bytes s n rest e = record {
   written = refl;
   starts = signed_starts bytes s;

@@ -1,5 +1,8 @@
 -- The printed words, names, texts and instants are pieces of their tokens, before each end.
-use Rattle.std.proofs.Common.{◌≡◌, ℕ, zero, suc, ◌+◌, ◌<◌, ◌≤◌, Bool, true, false, not, ◌&&◌, ◌||◌, ◌==◌, cond, List, [], ◌∷◌, ◌++◌, map, length, take, drop, Option, Some, None, refl, sym, ◌∙◌, ap, subst, arith, append_assoc, append-nil, ◌⊎◌, inl, inr}
+use Rattle.std.proofs.Common.{◌≡◌, ℕ, zero, suc, ◌+◌, ◌<◌, ◌≤◌, Bool, true, false, not, ◌&&◌, ◌||◌}
+use Rattle.std.proofs.Common.{◌==◌, cond, List, [], ◌∷◌, ◌++◌, map, length, take, drop, Option}
+use Rattle.std.proofs.Common.{Some, None, refl, sym, ◌∙◌, ap, subst, arith, append_assoc}
+use Rattle.std.proofs.Common.{append-nil, ◌⊎◌, inl, inr}
 use Rattle.std.specs.Prelude.{ℤ, IsUtf8}
 use Rattle.std.specs.List.{list_all}
 use Rattle.std.specs.Str.{is_utf8, IsAscii}
@@ -11,7 +14,9 @@ use Rattle.gm_types.specs.Words.{is_name, begins_name, continues_name}
 use Rattle.gm_ecql.specs.declared.keyword.Keyword.{Keyword}
 use Rattle.gm_ecql.specs.declared.keyword.Keyword.TheVariants as k
 use Rattle.gm_ecql.specs.Printing.{name_text, name_unless, quoted_text}
-use Rattle.gm_ecql.specs.Tokens.{Seen, a_keyword, a_name, a_text, an_instant, is_word_start, is_word_byte, is_no_double, Stops, Starts, IsPiece, IsWord, doubled}
+use Rattle.gm_ecql.specs.Tokens.{Seen, a_keyword, a_name, a_text, an_instant, is_word_start}
+use Rattle.gm_ecql.specs.Tokens.{is_word_byte, is_no_double, Stops, Starts, IsPiece, IsWord}
+use Rattle.gm_ecql.specs.Tokens.{doubled}
 use Rattle.gm_ecql.specs.Words.{keyword_text, keyword_of}
 use Rattle.gm_ecql.proofs.Lexemes.{Ends, ends_word, ends_single, ends_instant}
 use Rattle.gm_ecql.proofs.Scans.{both}
@@ -46,7 +51,8 @@ keyword_named k.MultiPoint = refl
 keyword_named k.MultiLineString = refl
 keyword_named k.MultiPolygon = refl
 
-keyword_word : (x : Keyword) → Starts is_word_start (keyword_text x) × (list_all is_word_byte (keyword_text x) ≡ true)
+keyword_word : (x : Keyword)
+    → Starts is_word_start (keyword_text x) × (list_all is_word_byte (keyword_text x) ≡ true)
 keyword_word k.And = (refl, refl)
 keyword_word k.Or = (refl, refl)
 keyword_word k.Not = (refl, refl)
@@ -75,7 +81,8 @@ keyword_word k.MultiPoint = (refl, refl)
 keyword_word k.MultiLineString = (refl, refl)
 keyword_word k.MultiPolygon = (refl, refl)
 
-pub keyword_piece : (x : Keyword) (rest : List ℕ) → Ends rest → IsPiece (keyword_text x) (a_keyword x) rest
+pub keyword_piece : (x : Keyword) (rest : List ℕ) → Ends rest
+    → IsPiece (keyword_text x) (a_keyword x) rest
 keyword_piece x rest e = record {
   word = record { starts = (keyword_word x).0; all = (keyword_word x).1; ends = ends_word rest e };
   named = keyword_named x;
@@ -103,7 +110,10 @@ name_bytes [] h = absurd (cc)
 name_bytes (b ∷ bs) h =
     let p = both (begins_name b) _ h in
     let q = both _ (list_all continues_name bs) p.1 in
-    record { starts = p.0; all = ap (λ x. x && list_all is_word_byte bs) (start_byte b p.0) ∙ more_bytes bs q.1 }
+    record {
+      starts = p.0;
+      all = ap (λ x. x && list_all is_word_byte bs) (start_byte b p.0) ∙ more_bytes bs q.1;
+    }
 
 word_no_double : (b : ℕ) → is_word_byte b ≡ true → is_no_double b ≡ true
 word_no_double b e = grind (arith, nat_tests)
@@ -118,12 +128,26 @@ some_bytes : (name : List ℕ) → Starts is_word_start name → 0 < length name
 some_bytes [] s = absurd s
 some_bytes (b ∷ bs) s = omega arith
 
-pub name_piece : (name : List ℕ) → NameBytes name → IsUtf8 name → (rest : List ℕ) → Ends rest → IsPiece (name_text name) (a_name name) rest
+pub name_piece : (name : List ℕ) → NameBytes name → IsUtf8 name → (rest : List ℕ) → Ends rest
+    → IsPiece (name_text name) (a_name name) rest
 name_piece name n u rest e = by_keyword (keyword_of name) refl
   where
-    by_keyword : (o : Option Keyword) → keyword_of name ≡ o → IsPiece (name_unless name o) (a_name name) rest
-    by_keyword None f = inl (record { word = record { starts = n.starts; all = n.all; ends = ends_word rest e }; written = refl; none = f })
-    by_keyword (Some x) f = inr (record { written = refl; some = some_bytes name n.starts; all = no_doubles name n.all; utf8 = u })
+    by_keyword : (o : Option Keyword) → keyword_of name ≡ o
+        → IsPiece (name_unless name o) (a_name name) rest
+    by_keyword None f =
+        inl (record {
+          word = record { starts = n.starts; all = n.all; ends = ends_word rest e };
+          written = refl;
+          none = f;
+        })
+    by_keyword (Some x) f =
+        inr (record {
+          written = refl;
+          some = some_bytes name n.starts;
+          all = no_doubles name n.all;
+          utf8 = u;
+        })
 
-pub text_piece : (text : List ℕ) → IsUtf8 (doubled text) → (rest : List ℕ) → Ends rest → IsPiece (quoted_text text) (a_text text) rest
+pub text_piece : (text : List ℕ) → IsUtf8 (doubled text) → (rest : List ℕ) → Ends rest
+    → IsPiece (quoted_text text) (a_text text) rest
 text_piece text u rest e = record { written = refl; utf8 = u; ends = ends_single rest e }

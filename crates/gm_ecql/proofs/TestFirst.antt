@@ -1,5 +1,8 @@
 -- A test that is read stands first, as it is written.
-use Rattle.std.proofs.Common.{◌≡◌, ℕ, zero, suc, ◌+◌, ◌<◌, ◌≤◌, Bool, true, false, ◌==◌, cond, List, [], ◌∷◌, ◌++◌, length, take, drop, Option, Some, None, option_map, refl, sym, ◌∙◌, ap, subst, arith, append_assoc, length-append, ◌⊎◌, inl, inr}
+use Rattle.std.proofs.Common.{◌≡◌, ℕ, zero, suc, ◌+◌, ◌<◌, ◌≤◌, Bool, true, false, ◌==◌, cond, List}
+use Rattle.std.proofs.Common.{[], ◌∷◌, ◌++◌, length, take, drop, Option, Some, None, option_map}
+use Rattle.std.proofs.Common.{refl, sym, ◌∙◌, ap, subst, arith, append_assoc, length-append, ◌⊎◌}
+use Rattle.std.proofs.Common.{inl, inr}
 use Rattle.std.specs.Prelude.{ℤ}
 use Rattle.gm_filter.specs.declared.filter.Op.{Op}
 use Rattle.gm_filter.specs.declared.filter.Op.TheVariants as op
@@ -11,11 +14,16 @@ use Rattle.gm_ecql.specs.declared.test.Relation.{Relation}
 use Rattle.gm_ecql.specs.declared.test.Relation.TheVariants as relation
 use Rattle.gm_ecql.specs.declared.test.Timing.{Timing}
 use Rattle.gm_ecql.specs.declared.test.Timing.TheVariants as timing
-use Rattle.gm_ecql.specs.Grammar.{opening, closing, comma, literal_token, by_commas, op_symbol, relation_word, timing_word, not_tokens}
-use Rattle.gm_ecql.specs.Reading.{Reader, ◌>>=◌, or_else, after_keyword, after_symbol, symbol_at, name_at, text_at, number_at, instant_at, truth_at, constant_at, separator_at, member_then, members_at, list_at, op_of, op_at, not_at, relation_at, timing_at}
+use Rattle.gm_ecql.specs.Grammar.{opening, closing, comma, literal_token, by_commas, op_symbol}
+use Rattle.gm_ecql.specs.Grammar.{relation_word, timing_word, not_tokens}
+use Rattle.gm_ecql.specs.Reading.{Reader, ◌>>=◌, or_else, after_keyword, after_symbol, symbol_at}
+use Rattle.gm_ecql.specs.Reading.{name_at, text_at, number_at, instant_at, truth_at, constant_at}
+use Rattle.gm_ecql.specs.Reading.{separator_at, member_then, members_at, list_at, op_of, op_at}
+use Rattle.gm_ecql.specs.Reading.{not_at, relation_at, timing_at}
 use Rattle.gm_ecql.specs.Test.{Written, of_text, of_number, of_instant, of_truth}
 use Rattle.gm_ecql.specs.Tokens.{Seen, a_keyword, a_name, a_text, an_instant, a_number, a_symbol}
-use Rattle.gm_ecql.proofs.Readers.{keyword_first, symbol_first, name_first, text_first, number_first, instant_first}
+use Rattle.gm_ecql.proofs.Readers.{keyword_first, symbol_first, name_first, text_first}
+use Rattle.gm_ecql.proofs.Readers.{number_first, instant_first}
 
 pub some_is : {A : Type 0} (x y : A) → ◌≡◌ {A = Option A} (Some x) (Some y) → x ≡ y
 some_is x y e = cc
@@ -39,26 +47,33 @@ pub chose : {A B : Type 0} (o : Option A) (f : A → B) (other z : B) → or_els
 chose None f other z h = inr (refl, h)
 chose (Some x) f other z h = inl (x, refl, h)
 
-pub both_are : {A B : Type 0} (x y : A) (r s : B) → ◌≡◌ {A = A × B} (x, r) (y, s) → (x ≡ y) × (r ≡ s)
+pub both_are : {A B : Type 0} (x y : A) (r s : B) → ◌≡◌ {A = A × B} (x, r) (y, s)
+    → (x ≡ y) × (r ≡ s)
 both_are x y r s e = (ap (λ p. p.0) e, ap (λ p. p.1) e)
 
-truth_first : (ts : List Seen) (r : Bool × List Seen) → truth_at ts ≡ Some r → ts ≡ literal_token (of_truth r.0) ∷ r.1
+truth_first : (ts : List Seen) (r : Bool × List Seen) → truth_at ts ≡ Some r
+    → ts ≡ literal_token (of_truth r.0) ∷ r.1
 truth_first ts r h = elim (chose (after_keyword keyword.True ts) _ _ _ h) [
   | inl c ↦
       let e : (true, c.0) ≡ r = some_is _ _ c.2 in
       subst (λ p. ts ≡ literal_token (of_truth p.0) ∷ p.1) e (keyword_first keyword.True ts c.0 c.1)
   | inr c ↦
       let m = mapped (after_keyword keyword.False ts) (λ rest. (false, rest)) r c.1 in
-      subst (λ p. ts ≡ literal_token (of_truth p.0) ∷ p.1) m.2 (keyword_first keyword.False ts m.0 m.1)
+      subst (λ p. ts ≡ literal_token (of_truth p.0) ∷ p.1) m.2
+      (keyword_first keyword.False ts m.0 m.1)
 ]
 
-pub constant_first : (ts : List Seen) (r : Written × List Seen) → constant_at ts ≡ Some r → ts ≡ literal_token r.0 ∷ r.1
+pub constant_first : (ts : List Seen) (r : Written × List Seen) → constant_at ts ≡ Some r
+    → ts ≡ literal_token r.0 ∷ r.1
 constant_first ts r h = elim (chose (text_at ts) _ _ _ h) [
-  | inl c ↦ subst (λ p. ts ≡ literal_token p.0 ∷ p.1) (some_is _ r c.2) (text_first ts c.0.1 c.0.0 c.1)
+  | inl c ↦ subst (λ p. ts ≡ literal_token p.0 ∷ p.1) (some_is _ r c.2)
+      (text_first ts c.0.1 c.0.0 c.1)
   | inr c ↦ elim (chose (number_at ts) _ _ _ c.1) [
-    | inl c ↦ subst (λ p. ts ≡ literal_token p.0 ∷ p.1) (some_is _ r c.2) (number_first ts c.0.1 c.0.0 c.1)
+    | inl c ↦ subst (λ p. ts ≡ literal_token p.0 ∷ p.1) (some_is _ r c.2)
+        (number_first ts c.0.1 c.0.0 c.1)
     | inr c ↦ elim (chose (instant_at ts) _ _ _ c.1) [
-      | inl c ↦ subst (λ p. ts ≡ literal_token p.0 ∷ p.1) (some_is _ r c.2) (instant_first ts c.0.1 c.0.0 c.1)
+      | inl c ↦ subst (λ p. ts ≡ literal_token p.0 ∷ p.1) (some_is _ r c.2)
+          (instant_first ts c.0.1 c.0.0 c.1)
       | inr c ↦
           let m = mapped (truth_at ts) (λ r. (of_truth r.0, r.1)) r c.1 in
           subst (λ p. ts ≡ literal_token p.0 ∷ p.1) m.2 (truth_first ts m.0 m.1)
@@ -71,9 +86,11 @@ abbrev pub separator_token : Bool → Seen
 separator_token true = comma
 separator_token false = closing
 
-pub separator_first : (ts : List Seen) (r : Bool × List Seen) → separator_at ts ≡ Some r → ts ≡ separator_token r.0 ∷ r.1
+pub separator_first : (ts : List Seen) (r : Bool × List Seen) → separator_at ts ≡ Some r
+    → ts ≡ separator_token r.0 ∷ r.1
 separator_first ts r h = elim (chose (after_symbol symbol.Comma ts) _ _ _ h) [
-  | inl c ↦ subst (λ p. ts ≡ separator_token p.0 ∷ p.1) (some_is _ r c.2) (symbol_first symbol.Comma ts c.0 c.1)
+  | inl c ↦ subst (λ p. ts ≡ separator_token p.0 ∷ p.1) (some_is _ r c.2)
+      (symbol_first symbol.Comma ts c.0 c.1)
   | inr c ↦
       let m = mapped (after_symbol symbol.Closing ts) (λ rest. (false, rest)) r c.1 in
       subst (λ p. ts ≡ separator_token p.0 ∷ p.1) m.2 (symbol_first symbol.Closing ts m.0 m.1)
@@ -86,29 +103,38 @@ module _ {A : Type 0} (item : Reader A) (token : A → Seen)
     pub some : 0 < length xs
     pub written : ts ≡ by_commas token xs ++ closing ∷ rest
 
-  pub members_first : (n : ℕ) (ts : List Seen) (r : List A × List Seen) → members_at item n ts ≡ Some r → Listed ts r.0 r.1
+  pub members_first : (n : ℕ) (ts : List Seen) (r : List A × List Seen)
+      → members_at item n ts ≡ Some r → Listed ts r.0 r.1
   unfolding members_at
   members_first zero ts r h = no_some r h
   members_first (suc n) ts r h =
       let m = bound (item ts) _ r h in
       let s = bound (separator_at m.0.1) _ r m.2 in
-      by_separator m.0.0 m.0.1 s.0.0 s.0.1 (members_first n s.0.1) (first ts m.0 m.1) (separator_first m.0.1 s.0 s.1) s.2
+      by_separator m.0.0 m.0.1 s.0.0 s.0.1 (members_first n s.0.1) (first ts m.0 m.1)
+      (separator_first m.0.1 s.0 s.1) s.2
     where
       by_separator : (x : A) (behind : List Seen) (more : Bool) (later : List Seen)
-          → ((r : List A × List Seen) → members_at item n later ≡ Some r → Listed later r.0 r.1) → ts ≡ token x ∷ behind
-          → behind ≡ separator_token more ∷ later → member_then (members_at item n) x more later ≡ Some r → Listed ts r.0 r.1
+          → ((r : List A × List Seen) → members_at item n later ≡ Some r → Listed later r.0 r.1)
+          → ts ≡ token x ∷ behind
+          → behind ≡ separator_token more ∷ later
+          → member_then (members_at item n) x more later ≡ Some r → Listed ts r.0 r.1
       by_separator x behind false later again e f g =
           subst (λ p. Listed ts p.0 p.1) (some_is (x ∷ [], later) r g)
           (record { some = omega arith; written = e ∙ ap (λ z. token x ∷ z) f })
       by_separator x behind true later again e f g =
           let m = mapped (members_at item n later) (λ r. (x ∷ r.0, r.1)) r g in
           let inner = again m.0 m.1 in
-          subst (λ p. Listed ts p.0 p.1) m.2 (longer x m.0.0 m.0.1 inner (e ∙ ap (λ z. token x ∷ z) f))
+          subst (λ p. Listed ts p.0 p.1) m.2
+          (longer x m.0.0 m.0.1 inner (e ∙ ap (λ z. token x ∷ z) f))
         where
-          longer : (x : A) (xs rest : _) → Listed later xs rest → ts ≡ token x ∷ comma ∷ later → Listed ts (x ∷ xs) rest
+          longer : (x : A) (xs rest : _) → Listed later xs rest → ts ≡ token x ∷ comma ∷ later
+              → Listed ts (x ∷ xs) rest
           longer x [] rest inner e = absurd (omega (arith, inner.some))
           longer x (y ∷ ys) rest inner e =
-              record { some = omega arith; written = e ∙ ap (λ z. token x ∷ comma ∷ z) inner.written }
+              record {
+                some = omega arith;
+                written = e ∙ ap (λ z. token x ∷ comma ∷ z) inner.written;
+              }
 
   pub list_first : (ts : List Seen) (r : List A × List Seen) → list_at item ts ≡ Some r
       → (0 < length r.0) × (ts ≡ opening ∷ (by_commas token r.0 ++ closing ∷ r.1))
@@ -117,7 +143,8 @@ module _ {A : Type 0} (item : Reader A) (token : A → Seen)
       let l = members_first (length o.0) o.0 r o.2 in
       (l.some, symbol_first symbol.Opening ts o.0 o.1 ∙ ap (λ z. opening ∷ z) l.written)
 
-pub symbol_at_first : (ts : List Seen) (r : Symbol × List Seen) → symbol_at ts ≡ Some r → ts ≡ a_symbol r.0 ∷ r.1
+pub symbol_at_first : (ts : List Seen) (r : Symbol × List Seen) → symbol_at ts ≡ Some r
+    → ts ≡ a_symbol r.0 ∷ r.1
 symbol_at_first [] r h = no_some r h
 symbol_at_first (a_keyword j ∷ ts) r h = no_some r h
 symbol_at_first (a_name bytes ∷ ts) r h = no_some r h
@@ -138,7 +165,8 @@ op_symbol_of symbol.More o h = ap op_symbol (some_is op.Gt o h)
 op_symbol_of symbol.AtLeast o h = ap op_symbol (some_is op.Ge o h)
 op_symbol_of symbol.Slash o h = no_some o h
 
-pub op_first : (ts : List Seen) (r : Op × List Seen) → op_at ts ≡ Some r → ts ≡ a_symbol (op_symbol r.0) ∷ r.1
+pub op_first : (ts : List Seen) (r : Op × List Seen) → op_at ts ≡ Some r
+    → ts ≡ a_symbol (op_symbol r.0) ∷ r.1
 op_first ts r h =
     let s = bound (symbol_at ts) _ r h in
     let m = mapped (op_of s.0.0) (λ o. (o, s.0.1)) r s.2 in
@@ -148,24 +176,30 @@ op_first ts r h =
 pub relation_first : (ts : List Seen) (r : Relation × List Seen) → relation_at ts ≡ Some r
     → ts ≡ a_keyword (relation_word r.0) ∷ r.1
 relation_first ts r h = elim (chose (after_keyword keyword.Intersects ts) _ _ _ h) [
-  | inl c ↦ subst (λ p. ts ≡ a_keyword (relation_word p.0) ∷ p.1) (some_is _ r c.2) (keyword_first keyword.Intersects ts c.0 c.1)
+  | inl c ↦ subst (λ p. ts ≡ a_keyword (relation_word p.0) ∷ p.1) (some_is _ r c.2)
+      (keyword_first keyword.Intersects ts c.0 c.1)
   | inr c ↦ elim (chose (after_keyword keyword.Disjoint ts) _ _ _ c.1) [
-    | inl c ↦ subst (λ p. ts ≡ a_keyword (relation_word p.0) ∷ p.1) (some_is _ r c.2) (keyword_first keyword.Disjoint ts c.0 c.1)
+    | inl c ↦ subst (λ p. ts ≡ a_keyword (relation_word p.0) ∷ p.1) (some_is _ r c.2)
+        (keyword_first keyword.Disjoint ts c.0 c.1)
     | inr c ↦
         let m = mapped (after_keyword keyword.Within ts) (λ rest. (relation.Within, rest)) r c.1 in
-        subst (λ p. ts ≡ a_keyword (relation_word p.0) ∷ p.1) m.2 (keyword_first keyword.Within ts m.0 m.1)
+        subst (λ p. ts ≡ a_keyword (relation_word p.0) ∷ p.1) m.2
+        (keyword_first keyword.Within ts m.0 m.1)
   ]
 ]
 
 pub timing_first : (ts : List Seen) (r : Timing × List Seen) → timing_at ts ≡ Some r
     → ts ≡ a_keyword (timing_word r.0) ∷ r.1
 timing_first ts r h = elim (chose (after_keyword keyword.Before ts) _ _ _ h) [
-  | inl c ↦ subst (λ p. ts ≡ a_keyword (timing_word p.0) ∷ p.1) (some_is _ r c.2) (keyword_first keyword.Before ts c.0 c.1)
+  | inl c ↦ subst (λ p. ts ≡ a_keyword (timing_word p.0) ∷ p.1) (some_is _ r c.2)
+      (keyword_first keyword.Before ts c.0 c.1)
   | inr c ↦ elim (chose (after_keyword keyword.After ts) _ _ _ c.1) [
-    | inl c ↦ subst (λ p. ts ≡ a_keyword (timing_word p.0) ∷ p.1) (some_is _ r c.2) (keyword_first keyword.After ts c.0 c.1)
+    | inl c ↦ subst (λ p. ts ≡ a_keyword (timing_word p.0) ∷ p.1) (some_is _ r c.2)
+        (keyword_first keyword.After ts c.0 c.1)
     | inr c ↦
         let m = mapped (after_keyword keyword.Tequals ts) (λ rest. (timing.Tequals, rest)) r c.1 in
-        subst (λ p. ts ≡ a_keyword (timing_word p.0) ∷ p.1) m.2 (keyword_first keyword.Tequals ts m.0 m.1)
+        subst (λ p. ts ≡ a_keyword (timing_word p.0) ∷ p.1) m.2
+        (keyword_first keyword.Tequals ts m.0 m.1)
   ]
 ]
 
@@ -174,6 +208,7 @@ pub not_first : (ts : List Seen) → ts ≡ not_tokens (not_at ts).0 ++ (not_at 
 not_first ts = by_word (after_keyword keyword.Not ts) refl
   where
     by_word : (o : Option (List Seen)) → after_keyword keyword.Not ts ≡ o
-        → ts ≡ not_tokens (or_else {B = Bool × List Seen} o (λ rest. (true, rest)) (false, ts)).0 ++ (or_else {B = Bool × List Seen} o (λ rest. (true, rest)) (false, ts)).1
+        → ts ≡ not_tokens (or_else {B = Bool × List Seen} o (λ rest. (true, rest)) (false, ts)).0
+        ++ (or_else {B = Bool × List Seen} o (λ rest. (true, rest)) (false, ts)).1
     by_word None e = refl
     by_word (Some rest) e = keyword_first keyword.Not ts rest e

@@ -1,5 +1,6 @@
 -- What is spelled is UTF-8.
-use Rattle.std.proofs.Common.{◌≡◌, ℕ, zero, suc, ◌<◌, Bool, true, false, ◌&&◌, ◌||◌, ◌==◌, List, [], ◌∷◌, ◌++◌, length, refl, sym, ap, ◌∙◌, subst, arith, ◌⊎◌, inl, inr}
+use Rattle.std.proofs.Common.{◌≡◌, ℕ, zero, suc, ◌<◌, Bool, true, false, ◌&&◌, ◌||◌, ◌==◌, List, []}
+use Rattle.std.proofs.Common.{◌∷◌, ◌++◌, length, refl, sym, ap, ◌∙◌, subst, arith, ◌⊎◌, inl, inr}
 use Rattle.std.specs.Prelude.{IsUtf8, slice_index}
 use Rattle.std.specs.List.{list_all}
 use Rattle.std.proofs.lemmas.Bool.Decides.{nat_tests}
@@ -7,15 +8,18 @@ use Rattle.std.proofs.lemmas.Str.{IsUtf8-append, IsUtf8-from_ascii, IsUtf8-nil}
 use Rattle.gm_calendar.specs.Spelling.{is_instant_byte}
 use Rattle.gm_ecql.specs.declared.token.Symbol.{Symbol}
 use Rattle.gm_ecql.specs.declared.token.Symbol.TheVariants as symbol
-use Rattle.gm_ecql.specs.Tokens.{Seen, a_keyword, a_name, a_text, an_instant, a_number, a_symbol, is_blank, is_word_byte, doubled, symbol_text, IsPiece, Spells}
+use Rattle.gm_ecql.specs.Tokens.{Seen, a_keyword, a_name, a_text, an_instant, a_number, a_symbol}
+use Rattle.gm_ecql.specs.Tokens.{is_blank, is_word_byte, doubled, symbol_text, IsPiece, Spells}
 use Rattle.gm_ecql.proofs.Scans.{both}
 use Rattle.gm_ecql.proofs.Complete.{word_ascii}
 use Rattle.gm_ecql.proofs.Numbers.{number_joins, joined_ascii}
 
-all_ascii : (test : ℕ → Bool) → ((b : ℕ) → test b ≡ true → b < 128) → (bs : List ℕ) → list_all test bs ≡ true → (i : ℕ) → slice_index bs i < 128
+all_ascii : (test : ℕ → Bool) → ((b : ℕ) → test b ≡ true → b < 128) → (bs : List ℕ)
+    → list_all test bs ≡ true → (i : ℕ) → slice_index bs i < 128
 all_ascii test below [] all i = omega arith
 all_ascii test below (b ∷ bs) all zero = below b (both (test b) (list_all test bs) all).0
-all_ascii test below (b ∷ bs) all (suc i) = all_ascii test below bs (both (test b) (list_all test bs) all).1 i
+all_ascii test below (b ∷ bs) all (suc i) =
+    all_ascii test below bs (both (test b) (list_all test bs) all).1 i
 
 blank_ascii : (b : ℕ) → is_blank b ≡ true → b < 128
 blank_ascii b e = grind (arith, nat_tests)
@@ -23,14 +27,17 @@ blank_ascii b e = grind (arith, nat_tests)
 instant_ascii : (b : ℕ) → is_instant_byte b ≡ true → b < 128
 instant_ascii b e = grind (arith, nat_tests)
 
-utf8_by : (test : ℕ → Bool) → ((b : ℕ) → test b ≡ true → b < 128) → (bs : List ℕ) → list_all test bs ≡ true → IsUtf8 bs
+utf8_by : (test : ℕ → Bool) → ((b : ℕ) → test b ≡ true → b < 128) → (bs : List ℕ)
+    → list_all test bs ≡ true → IsUtf8 bs
 utf8_by test below bs all = IsUtf8-from_ascii bs (all_ascii test below bs all)
 
 word_utf8 : (bs : List ℕ) → list_all is_word_byte bs ≡ true → IsUtf8 bs
 word_utf8 bs all = IsUtf8-from_ascii bs (word_ascii bs all)
 
 abbrev is_ascii : ℕ → Bool
-is_ascii b = b == 34 || (b == 39 || (b == 40 || (b == 41 || (b == 44 || (b == 47 || (b == 60 || (b == 61 || b == 62)))))))
+is_ascii b = b == 34
+    || (b == 39 || (b == 40
+    || (b == 41 || (b == 44 || (b == 47 || (b == 60 || (b == 61 || b == 62)))))))
 
 ascii_below : (b : ℕ) → is_ascii b ≡ true → b < 128
 ascii_below b e = grind (arith, nat_tests)
@@ -51,16 +58,21 @@ byte_utf8 : (b : ℕ) → is_ascii b ≡ true → IsUtf8 (b ∷ [])
 byte_utf8 b e = utf8_by is_ascii ascii_below (b ∷ []) (ap (λ x. x && true) e)
 
 quoted_utf8 : (b : ℕ) (bs : List ℕ) → is_ascii b ≡ true → IsUtf8 bs → IsUtf8 (b ∷ (bs ++ b ∷ []))
-quoted_utf8 b bs e u = IsUtf8-append (b ∷ []) (bs ++ b ∷ []) (byte_utf8 b e) (IsUtf8-append bs (b ∷ []) u (byte_utf8 b e))
+quoted_utf8 b bs e u =
+    IsUtf8-append (b ∷ []) (bs ++ b ∷ []) (byte_utf8 b e)
+    (IsUtf8-append bs (b ∷ []) u (byte_utf8 b e))
 
 piece_utf8 : (t : Seen) (piece rest : List ℕ) → IsPiece piece t rest → IsUtf8 piece
 piece_utf8 (a_keyword k) piece rest p = word_utf8 piece p.word.all
 piece_utf8 (a_name bytes) piece rest (inl p) = word_utf8 piece p.word.all
-piece_utf8 (a_name bytes) piece rest (inr p) = subst (λ z. IsUtf8 z) (sym p.written) (quoted_utf8 34 bytes refl p.utf8)
-piece_utf8 (a_text bytes) piece rest p = subst (λ z. IsUtf8 z) (sym p.written) (quoted_utf8 39 (doubled bytes) refl p.utf8)
+piece_utf8 (a_name bytes) piece rest (inr p) =
+    subst (λ z. IsUtf8 z) (sym p.written) (quoted_utf8 34 bytes refl p.utf8)
+piece_utf8 (a_text bytes) piece rest p =
+    subst (λ z. IsUtf8 z) (sym p.written) (quoted_utf8 39 (doubled bytes) refl p.utf8)
 piece_utf8 (an_instant ms) piece rest p = utf8_by is_instant_byte instant_ascii piece p.all
 piece_utf8 (a_number bytes) piece rest p =
-    subst (λ z. IsUtf8 z) (sym p.written) (IsUtf8-from_ascii bytes (joined_ascii bytes true (number_joins bytes p.number)))
+    subst (λ z. IsUtf8 z) (sym p.written)
+    (IsUtf8-from_ascii bytes (joined_ascii bytes true (number_joins bytes p.number)))
 piece_utf8 (a_symbol s) piece rest p = subst (λ z. IsUtf8 z) (sym p.written) (symbol_utf8 s)
 
 pub spelled_is_utf8 : (text : List ℕ) (ts : List (Bool × Seen)) → Spells text ts → IsUtf8 text

@@ -1,5 +1,6 @@
 -- Changes as they are written, and what they stand for.
-use Rattle.std.specs.Prelude.{◌≡◌, ℕ, ◌^◌, Bool, true, false, if◌then◌else◌, List, [], ◌∷◌, ◌++◌, ℤ, Option, Some, None, option_map, option_and_then, is_some}
+use Rattle.std.specs.Prelude.{◌≡◌, ℕ, ◌^◌, Bool, true, false, if◌then◌else◌, List, [], ◌∷◌, ◌++◌, ℤ}
+use Rattle.std.specs.Prelude.{Option, Some, None, option_map, option_and_then, is_some}
 use Rattle.gm_geom.specs.declared.geometry.Geometry.{Geometry}
 use Rattle.gm_types.specs.declared.kind.Kind.{Kind}
 use Rattle.gm_types.specs.declared.kind.Kind.TheVariants as kind
@@ -20,7 +21,8 @@ use Rattle.gm_ecql.specs.declared.change.Assigned.{Assigned}
 use Rattle.gm_ecql.specs.declared.judging.Faults.{Faults}
 use Rattle.gm_ecql.specs.Geometry.{piece_at, geometry_of}
 use Rattle.gm_ecql.specs.Grammar.{SpellsJudged, literal_token, IsGeometryPiece}
-use Rattle.gm_ecql.specs.Judging.{NameFaults, Judged, faultless, first_faults, faults_seen, literal_of}
+use Rattle.gm_ecql.specs.Judging.{NameFaults, Judged, faultless, first_faults, faults_seen}
+use Rattle.gm_ecql.specs.Judging.{literal_of}
 use Rattle.gm_ecql.specs.Parsing.{document}
 use Rattle.gm_ecql.specs.Reading.{Reader, ◌>>=◌, or_else, after_keyword, constant_at, name_at}
 use Rattle.gm_ecql.specs.Test.{Written, constant_seen}
@@ -72,7 +74,8 @@ literal_value k w = option_and_then (value_of k) (literal_of (is_date k) w)
 -- The value that is meant, if there is one. Nothing where the tokens of a geometry spell none.
 abbrev pub new_value : Kind → New → Option (Option Value)
 new_value k (new_literal w) = Some (literal_value k w)
-new_value k (new_geometry piece) = option_map (λ kept. option_map (λ g. value.Geo g) kept) (geometry_of piece)
+new_value k (new_geometry piece) =
+    option_map (λ kept. option_map (λ g. value.Geo g) kept) (geometry_of piece)
 new_value k new_null = Some (Some value.Null)
 
 abbrev pub is_new_spelled : New → Bool
@@ -117,10 +120,16 @@ pub record JudgedChange : Type 0 where
 
 abbrev pub change_judged : Assignment → Judged → JudgedChange
 change_judged a j =
-    record { place = a.place; holds = a.holds; meaning = j.meaning; faults = first_faults a.faults j.faults }
+    record {
+      place = a.place;
+      holds = a.holds;
+      meaning = j.meaning;
+      faults = first_faults a.faults j.faults;
+    }
 
 -- change = name ( literal | wkt | NULL ) WHERE filter
-pub record SpellsChangeJudged (s : Specification) (tokens : List Seen) (c : JudgedChange) : Type 0 where
+pub record SpellsChangeJudged (s : Specification) (tokens : List Seen)
+    (c : JudgedChange) : Type 0 where
   pub name : List ℕ
   pub given : New
   pub rest : List Seen
@@ -163,4 +172,5 @@ abbrev pub assigned_seen : Assigned → Assignment
 assigned_seen a = record { place = a.attribute; holds = a.value; faults = faults_seen a.faults }
 
 abbrev pub change_seen : Change → Faults → JudgedChange
-change_seen c f = record { place = c.attribute; holds = c.value; meaning = tree c.filter; faults = faults_seen f }
+change_seen c f =
+    record { place = c.attribute; holds = c.value; meaning = tree c.filter; faults = faults_seen f }

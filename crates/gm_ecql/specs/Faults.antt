@@ -1,5 +1,6 @@
 -- What a text spells, and the order of its faults.
-use Rattle.std.specs.Prelude.{◌≡◌, ◌⊎◌, ℕ, Bool, true, false, List, Option, Some, None, Result, Ok, Err}
+use Rattle.std.specs.Prelude.{◌≡◌, ◌⊎◌, ℕ, Bool, true, false, List, Option, Some, None, Result, Ok}
+use Rattle.std.specs.Prelude.{Err}
 use Rattle.gm_types.specs.Specification.{Specification}
 use Rattle.gm_feature.specs.declared.value.Value.{Value}
 use Rattle.gm_filter.specs.declared.filter.Filter.{Filter}
@@ -18,7 +19,8 @@ pub record IsFilterOf (s : Specification) (ts : List (Bool × Seen)) (j : Judged
   pub apart : are_numbers_apart ts ≡ true
   pub spelled : SpellsJudged s (unspaced ts) j
 
-pub record IsChangeOf (s : Specification) (ts : List (Bool × Seen)) (c : JudgedChange) : Type 0 where
+pub record IsChangeOf (s : Specification) (ts : List (Bool × Seen))
+    (c : JudgedChange) : Type 0 where
   pub apart : are_numbers_apart ts ≡ true
   pub spelled : SpellsChangeJudged s (unspaced ts) c
 
@@ -32,7 +34,8 @@ pub record SpellsFilter (s : Specification) (text : List ℕ) (t : Tree) : Type 
   pub means : t ≡ judged.meaning
 
 -- The text spells the change to this attribute, to this value, by the filter of this tree.
-pub record SpellsChange (s : Specification) (text : List ℕ) (place : ℕ) (value : Value) (t : Tree) : Type 0 where
+pub record SpellsChange (s : Specification) (text : List ℕ) (place : ℕ) (value : Value)
+    (t : Tree) : Type 0 where
   pub tokens : List (Bool × Seen)
   pub judged : JudgedChange
   pub lexed : SpellsTokens text tokens
@@ -42,19 +45,23 @@ pub record SpellsChange (s : Specification) (text : List ℕ) (place : ℕ) (val
   pub value_means : value ≡ judged.holds
   pub filter_means : t ≡ judged.meaning
 
--- Where tokens keep the limits: nothing in the grammar, or what it stands for, of which the first faults decide.
-abbrev pub IsOutOfGrammar : {J : Type 0} → (List (Bool × Seen) → J → Type 0) → List (Bool × Seen) → Type 0
+-- Where tokens keep the limits: nothing in the grammar, or what it stands for, of which the first
+-- faults decide.
+abbrev pub IsOutOfGrammar : {J : Type 0} → (List (Bool × Seen) → J → Type 0)
+    → List (Bool × Seen) → Type 0
 IsOutOfGrammar {J} IsOf ts = (j : J) → IsOf ts j → ⊥
 
 -- the text is no list of tokens, or one that keeps the limits and is not in the grammar
 abbrev pub IsSyntaxFault : {J : Type 0} → (List (Bool × Seen) → J → Type 0) → List ℕ → Type 0
 IsSyntaxFault IsOf text =
     ((ts : List (Bool × Seen)) → SpellsTokens text ts → ⊥)
-    ⊎ ((ts : List (Bool × Seen)) × SpellsTokens text ts × (are_within (unspaced ts) ≡ true) × IsOutOfGrammar IsOf ts)
+    ⊎ ((ts : List (Bool × Seen)) × SpellsTokens text ts × (are_within (unspaced ts) ≡ true)
+    × IsOutOfGrammar IsOf ts)
 
 -- the text is a list of tokens that breaks a limit
 abbrev pub IsLimitFault : List ℕ → Type 0
-IsLimitFault text = (ts : List (Bool × Seen)) × SpellsTokens text ts × (are_within (unspaced ts) ≡ false)
+IsLimitFault text =
+    (ts : List (Bool × Seen)) × SpellsTokens text ts × (are_within (unspaced ts) ≡ false)
 
 -- the text is in the grammar and keeps the limits, and stands for this
 abbrev pub StandsFor : {J : Type 0} → (List (Bool × Seen) → J → Type 0) → List ℕ → J → Type 0
@@ -71,11 +78,14 @@ HasBad f name = (f.unknown ≡ None) × (f.bad ≡ Some name)
 
 -- which fault a text has, where the faults of what it stands for are seen by `faults`
 abbrev pub IsFault :
-    {J : Type 0} → (List (Bool × Seen) → J → Type 0) → (J → NameFaults) → List ℕ → FilterFault → Type 0
+    {J : Type 0} → (List (Bool × Seen) → J → Type 0) → (J → NameFaults) → List ℕ
+    → FilterFault → Type 0
 IsFault IsOf faults text fault.Syntax = IsSyntaxFault IsOf text
 IsFault IsOf faults text fault.Limit = IsLimitFault text
-IsFault {J} IsOf faults text (fault.Unknown name) = (j : J) × StandsFor IsOf text j × HasUnknown (faults j) name
-IsFault {J} IsOf faults text (fault.Literal name) = (j : J) × StandsFor IsOf text j × HasBad (faults j) name
+IsFault {J} IsOf faults text (fault.Unknown name) =
+    (j : J) × StandsFor IsOf text j × HasUnknown (faults j) name
+IsFault {J} IsOf faults text (fault.Literal name) =
+    (j : J) × StandsFor IsOf text j × HasBad (faults j) name
 IsFault IsOf faults text fault.NoMemory = Unit {0}
 
 -- What reading a filter answers, a case for each answer.

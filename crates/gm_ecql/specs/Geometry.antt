@@ -1,5 +1,7 @@
 -- Geometries among tokens.
-use Rattle.std.specs.Prelude.{ℕ, suc, ◌+◌, ◌==◌, ◌&&◌, Bool, true, false, codes, if◌then◌else◌, List, [], ◌∷◌, ◌++◌, take, drop, Option, Some, None, Result, Ok, Err, option_map}
+use Rattle.std.specs.Prelude.{ℕ, suc, ◌+◌, ◌==◌, ◌&&◌, Bool, true, false, codes, if◌then◌else◌}
+use Rattle.std.specs.Prelude.{List, [], ◌∷◌, ◌++◌, take, drop, Option, Some, None, Result, Ok, Err}
+use Rattle.std.specs.Prelude.{option_map}
 use Rattle.gm_geom.specs.declared.geometry.Geometry.{Geometry}
 use Rattle.gm_wkt.specs.declared.fault.WktFault.{WktFault}
 use Rattle.gm_wkt.specs.declared.fault.WktFault.TheVariants as wkt_fault
@@ -7,7 +9,8 @@ use Rattle.gm_wkt.specs.Answer.{answer_of}
 use Rattle.gm_ecql.specs.declared.token.Symbol.{Symbol}
 use Rattle.gm_ecql.specs.declared.token.Symbol.TheVariants as symbol
 use Rattle.gm_ecql.specs.Limits.{depth_behind, is_number}
-use Rattle.gm_ecql.specs.Tokens.{Seen, a_keyword, a_name, a_text, an_instant, a_number, a_symbol, symbol_text}
+use Rattle.gm_ecql.specs.Tokens.{Seen, a_keyword, a_name, a_text, an_instant, a_number, a_symbol}
+use Rattle.gm_ecql.specs.Tokens.{symbol_text}
 use Rattle.gm_ecql.specs.Words.{begins_geometry, keyword_text}
 
 abbrev pub is_geometry_word : Seen → Bool
@@ -18,7 +21,8 @@ is_geometry_word _ = false
 abbrev pub group_count : ℕ → List Seen → Option ℕ
 group_count depth [] = None
 group_count depth (t ∷ ts) =
-    if depth_behind depth t == 0 then Some 1 else option_map suc (group_count (depth_behind depth t) ts)
+    if depth_behind depth t == 0 then Some 1
+    else option_map suc (group_count (depth_behind depth t) ts)
 
 abbrev pub cut_behind : Option ℕ → Seen → List Seen → Option (List Seen × List Seen)
 cut_behind None t ts = None
@@ -29,8 +33,8 @@ abbrev pub piece_at : List Seen → Option (List Seen × List Seen)
 piece_at [] = None
 piece_at (t ∷ ts) = if is_geometry_word t then cut_behind (group_count 0 ts) t ts else None
 
--- Tokens as the printed form of geometries has them: a blank behind a keyword, behind each comma and between two
--- numbers, and none elsewhere.
+-- Tokens as the printed form of geometries has them: a blank behind a keyword, behind each comma
+-- and between two numbers, and none elsewhere.
 abbrev pub wkt_symbol_text : Symbol → List ℕ
 wkt_symbol_text symbol.Opening = symbol_text symbol.Opening
 wkt_symbol_text symbol.Closing = symbol_text symbol.Closing
@@ -59,12 +63,14 @@ gap_text false = []
 -- `behind` says that the token before is a number
 abbrev pub text_behind : Bool → List Seen → List ℕ
 text_behind behind [] = []
-text_behind behind (t ∷ ts) = gap_text (behind && is_number t) ++ (token_text t ++ text_behind (is_number t) ts)
+text_behind behind (t ∷ ts) =
+    gap_text (behind && is_number t) ++ (token_text t ++ text_behind (is_number t) ts)
 
 abbrev pub text_of : List Seen → List ℕ
 text_of = text_behind false
 
--- of what is read as Well-Known Text: nothing where it spells no geometry, else the one that is kept, if it is
+-- of what is read as Well-Known Text: nothing where it spells no geometry, else the one that is
+-- kept, if it is
 abbrev pub kept_of : Result Geometry WktFault → Option (Option Geometry)
 kept_of (Ok g) = Some (Some g)
 kept_of (Err wkt_fault.Syntax) = None

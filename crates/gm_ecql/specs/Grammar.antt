@@ -1,5 +1,6 @@
 -- The grammar: each way to write a filter or a change, its tokens, and what it stands for.
-use Rattle.std.specs.Prelude.{◌≡◌, ◌<◌, ℕ, Bool, true, false, List, [], ◌∷◌, ◌++◌, length, ℤ, Option, Some, None, option_map}
+use Rattle.std.specs.Prelude.{◌≡◌, ◌<◌, ℕ, Bool, true, false, List, [], ◌∷◌, ◌++◌, length, ℤ}
+use Rattle.std.specs.Prelude.{Option, Some, None, option_map}
 use Rattle.gm_types.specs.Specification.{Specification}
 use Rattle.gm_filter.specs.declared.filter.Op.{Op}
 use Rattle.gm_filter.specs.declared.filter.Op.TheVariants as op
@@ -14,7 +15,9 @@ use Rattle.gm_ecql.specs.declared.test.Timing.{Timing}
 use Rattle.gm_ecql.specs.declared.test.Timing.TheVariants as timing
 use Rattle.gm_ecql.specs.Geometry.{piece_at}
 use Rattle.gm_ecql.specs.Judging.{NameFaults, Judged, first_faults, judged}
-use Rattle.gm_ecql.specs.Test.{Written, of_text, of_number, of_instant, of_truth, Sides, Question, in_box, related, compared, between, like, one_of, null, during, timed, Trial, include, exclude, ids, named}
+use Rattle.gm_ecql.specs.Test.{Written, of_text, of_number, of_instant, of_truth, Sides, Question}
+use Rattle.gm_ecql.specs.Test.{in_box, related, compared, between, like, one_of, null, during}
+use Rattle.gm_ecql.specs.Test.{timed, Trial, include, exclude, ids, named}
 use Rattle.gm_ecql.specs.Tokens.{Seen, a_keyword, a_name, a_text, an_instant, a_number, a_symbol}
 
 abbrev pub opening : Seen
@@ -75,21 +78,25 @@ system_tokens (Some t) = comma ∷ a_text t ∷ []
 abbrev pub question_tokens : List ℕ → Question → List Seen
 question_tokens name (in_box sides system) =
     a_keyword keyword.Bbox ∷ in_brackets_tokens (a_name name ∷ comma ∷ a_number sides.west ∷ comma
-    ∷ a_number sides.south ∷ comma ∷ a_number sides.east ∷ comma ∷ a_number sides.north ∷ system_tokens system)
+    ∷ a_number sides.south ∷ comma ∷ a_number sides.east ∷ comma ∷ a_number sides.north
+    ∷ system_tokens system)
 question_tokens name (related r piece) =
     a_keyword (relation_word r) ∷ in_brackets_tokens (a_name name ∷ comma ∷ piece)
 question_tokens name (compared o w) = a_name name ∷ a_symbol (op_symbol o) ∷ literal_token w ∷ []
 question_tokens name (between n low high) =
-    a_name name ∷ (not_tokens n ++ a_keyword keyword.Between ∷ literal_token low ∷ a_keyword keyword.And
+    a_name name ∷ (not_tokens n
+    ++ a_keyword keyword.Between ∷ literal_token low ∷ a_keyword keyword.And
     ∷ literal_token high ∷ [])
 question_tokens name (like n pattern) =
     a_name name ∷ (not_tokens n ++ a_keyword keyword.Like ∷ a_text pattern ∷ [])
 question_tokens name (one_of n ws) =
-    a_name name ∷ (not_tokens n ++ a_keyword keyword.In ∷ in_brackets_tokens (by_commas literal_token ws))
+    a_name name ∷ (not_tokens n
+    ++ a_keyword keyword.In ∷ in_brackets_tokens (by_commas literal_token ws))
 question_tokens name (null n) =
     a_name name ∷ a_keyword keyword.Is ∷ (not_tokens n ++ a_keyword keyword.Null ∷ [])
 question_tokens name (during low high) =
-    a_name name ∷ a_keyword keyword.During ∷ an_instant low ∷ a_symbol symbol.Slash ∷ an_instant high ∷ []
+    a_name name ∷ a_keyword keyword.During ∷ an_instant low ∷ a_symbol symbol.Slash
+    ∷ an_instant high ∷ []
 question_tokens name (timed t at) = a_name name ∷ a_keyword (timing_word t) ∷ an_instant at ∷ []
 
 abbrev pub test_tokens : Trial → List Seen
@@ -111,7 +118,8 @@ IsTest (named name (related r piece)) = IsGeometryPiece piece
 IsTest (named name (one_of n ws)) = 0 < length ws
 IsTest (named name _) = Unit {0}
 
--- filter = term { OR term }, term = factor { AND factor }, factor = NOT factor | "(" filter ")" | test
+-- filter = term { OR term }, term = factor { AND factor }, factor = NOT factor | "(" filter ")" |
+-- test
 mutual
   pub data Factor : Type 0 where
     lone : Trial → Factor
@@ -186,14 +194,16 @@ grouped make ms = record { meaning = group make ms.members; faults = ms.faults }
 abbrev pub negated_of : Judged → Judged
 negated_of j = record { meaning = negated j.meaning; faults = j.faults }
 
--- What is written stands for this, and has these faults. Nothing where the tokens of a geometry spell none.
+-- What is written stands for this, and has these faults. Nothing where the tokens of a geometry
+-- spell none.
 abbrev mutual
   pub factor_judged : Specification → Factor → Option Judged
   factor_judged s (lone t) = judged s t
   factor_judged s (not_factor f) = option_map negated_of (factor_judged s f)
   factor_judged s (in_brackets f fs ts) =
       option_map (grouped any)
-      (with_member (option_map (grouped all) (with_member (factor_judged s f) (factors_judged s fs))) (terms_judged s ts))
+      (with_member (option_map (grouped all)
+      (with_member (factor_judged s f) (factors_judged s fs))) (terms_judged s ts))
 
   pub factors_judged : Specification → Factors → Option Members
   factors_judged s no_factors = Some no_members
@@ -202,7 +212,8 @@ abbrev mutual
   pub terms_judged : Specification → Terms → Option Members
   terms_judged s no_terms = Some no_members
   terms_judged s (or_term f fs ts) =
-      with_member (option_map (grouped all) (with_member (factor_judged s f) (factors_judged s fs))) (terms_judged s ts)
+      with_member (option_map (grouped all) (with_member (factor_judged s f) (factors_judged s fs)))
+      (terms_judged s ts)
 
 -- a filter is what stands between brackets
 pub record SpellsJudged (s : Specification) (tokens : List Seen) (j : Judged) : Type 0 where

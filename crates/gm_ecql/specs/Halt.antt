@@ -9,7 +9,8 @@ abbrev pub Halts : {Y : Type 0} → Option Y → Halt → Type 0
 Halts wanted halt.Syntax = wanted ≡ None
 Halts wanted halt.NoMemory = Unit {0}
 
--- What is seen of a result is what is wanted, and a syntax fault says that nothing is, unless memory ran out.
+-- What is seen of a result is what is wanted, and a syntax fault says that nothing is, unless
+-- memory ran out.
 abbrev pub Gives : {X Y : Type 0} → (X → Y) → Option Y → Result X Halt → Type 0
 Gives view wanted (Ok x) = wanted ≡ Some (view x)
 Gives view wanted (Err e) = Halts wanted e

@@ -1,5 +1,7 @@
 -- What a test that is written asks of a type: the filter that it stands for, and its first faults.
-use Rattle.std.specs.Prelude.{ℕ, ◌+◌, ◌*◌, ◌^◌, ◌&&◌, ◌==◌, Bool, true, false, nat_le, if◌then◌else◌, List, [], ◌∷◌, length, codes, ℤ, Option, Some, None, Result, Ok, Err, option_map, is_some}
+use Rattle.std.specs.Prelude.{ℕ, ◌+◌, ◌*◌, ◌^◌, ◌&&◌, ◌==◌, Bool, true, false, nat_le}
+use Rattle.std.specs.Prelude.{if◌then◌else◌, List, [], ◌∷◌, length, codes, ℤ, Option, Some, None}
+use Rattle.std.specs.Prelude.{Result, Ok, Err, option_map, is_some}
 use Rattle.std.specs.List.{list_all}
 use Rattle.std.specs.Char.{is_ascii_digit}
 use Rattle.std.specs.Str.{bytes_eq}
@@ -27,7 +29,9 @@ use Rattle.gm_ecql.specs.declared.test.Relation.TheVariants as relation
 use Rattle.gm_ecql.specs.declared.test.Timing.{Timing}
 use Rattle.gm_ecql.specs.declared.test.Timing.TheVariants as timing
 use Rattle.gm_ecql.specs.Geometry.{geometry_of}
-use Rattle.gm_ecql.specs.Test.{Written, of_text, of_number, of_instant, of_truth, Sides, Question, in_box, related, compared, between, like, one_of, null, during, timed, Trial, include, exclude, ids, named}
+use Rattle.gm_ecql.specs.Test.{Written, of_text, of_number, of_instant, of_truth, Sides, Question}
+use Rattle.gm_ecql.specs.Test.{in_box, related, compared, between, like, one_of, null, during}
+use Rattle.gm_ecql.specs.Test.{timed, Trial, include, exclude, ids, named}
 use Rattle.gm_ecql.specs.Tokens.{Seen}
 
 -- the first name that is no attribute, and the attribute of the first test that breaks a rule
@@ -50,13 +54,17 @@ first_name (Some name) later = Some name
 -- the first faults of both, the one written before the other
 abbrev pub first_faults : NameFaults → NameFaults → NameFaults
 first_faults earlier later =
-    record { unknown = first_name earlier.unknown later.unknown; bad = first_name earlier.bad later.bad }
+    record {
+      unknown = first_name earlier.unknown later.unknown;
+      bad = first_name earlier.bad later.bad;
+    }
 
 abbrev pub sound : Tree → Judged
 sound t = record { meaning = t; faults = faultless }
 
 abbrev pub unknown : List ℕ → Judged
-unknown name = record { meaning = tree.exclude; faults = record { unknown = Some name; bad = None } }
+unknown name =
+    record { meaning = tree.exclude; faults = record { unknown = Some name; bad = None } }
 
 abbrev pub bad : List ℕ → Judged
 bad name = record { meaning = tree.exclude; faults = record { unknown = None; bad = Some name } }
@@ -68,7 +76,8 @@ is_date_kind (Some k) = is_date k
 -- an optional sign and digits, of a value in 64 bits
 abbrev pub is_whole : List ℕ → Bool
 is_whole bytes =
-    nat_le 1 (length (without_leading_sign bytes)) && list_all is_ascii_digit (without_leading_sign bytes)
+    nat_le 1 (length (without_leading_sign bytes))
+    && list_all is_ascii_digit (without_leading_sign bytes)
 
 unfoldable pub whole_of : List ℕ → Option ℤ
 whole_of bytes =
@@ -156,8 +165,8 @@ between_of a date low high = between_literals a (literal_of date low) (literal_o
 abbrev pub one_of_literals : ℕ → Bool → List Written → Option Tree
 one_of_literals a date ws = option_map (λ ls. tree.one_of a ls) (literals_of date ws)
 
--- The tree that a question of an attribute stands for, if its literals stand for any. Nothing where the tokens
--- of a geometry spell none.
+-- The tree that a question of an attribute stands for, if its literals stand for any. Nothing where
+-- the tokens of a geometry spell none.
 abbrev pub candidate : ℕ → Bool → Question → Option (Option Tree)
 candidate a date (in_box sides system) = Some (bbox_of a sides system)
 candidate a date (related r piece) = related_of a r piece
@@ -195,7 +204,8 @@ judged s (named name q) = judged_named s name q
 
 -- what contracts see of the code's types
 abbrev pub faults_seen : Faults → NameFaults
-faults_seen f = record { unknown = option_map (λ n. n.now) f.unknown; bad = option_map (λ n. n.now) f.bad }
+faults_seen f =
+    record { unknown = option_map (λ n. n.now) f.unknown; bad = option_map (λ n. n.now) f.bad }
 
 abbrev pub found_seen : Found → Judged
 found_seen f = record { meaning = tree.tree f.filter; faults = faults_seen f.faults }

@@ -1,5 +1,6 @@
 -- What a list of tokens may have at most, and the blank that two numbers want between them.
-use Rattle.std.specs.Prelude.{ℕ, suc, ◌-◌, ◌&&◌, Bool, true, false, not, nat_le, max, if◌then◌else◌, List, [], ◌∷◌, length}
+use Rattle.std.specs.Prelude.{ℕ, suc, ◌-◌, ◌&&◌, Bool, true, false, not, nat_le, max, if◌then◌else◌}
+use Rattle.std.specs.Prelude.{List, [], ◌∷◌, length}
 use Rattle.gm_ecql.specs.declared.keyword.Keyword.{Keyword}
 use Rattle.gm_ecql.specs.declared.keyword.Keyword.TheVariants as keyword
 use Rattle.gm_ecql.specs.declared.token.Symbol.{Symbol}

@@ -1,5 +1,6 @@
 -- What reading answers, as functions of the text.
-use Rattle.std.specs.Prelude.{◌≡◌, ℕ, zero, suc, Bool, true, false, if◌then◌else◌, List, [], ◌∷◌, length, take, Option, Some, None, option_map, Result, Ok, Err}
+use Rattle.std.specs.Prelude.{◌≡◌, ℕ, zero, suc, Bool, true, false, if◌then◌else◌, List, [], ◌∷◌}
+use Rattle.std.specs.Prelude.{length, take, Option, Some, None, option_map, Result, Ok, Err}
 use Rattle.std.specs.List.{prefix_len}
 use Rattle.gm_types.specs.declared.kind.Kind.{Kind}
 use Rattle.gm_types.specs.Specification.{Specification, kind_at}
@@ -19,7 +20,8 @@ use Rattle.gm_ecql.specs.Tokens.{Seen, SpellsTokens, is_blank, is_some_list, uns
 abbrev pub has_blank_first : List ℕ → Bool
 has_blank_first text = is_some_list (take (prefix_len is_blank text) text)
 
-abbrev pub listed_with : Bool → (List ℕ → Option (List (Bool × Seen))) → Found → Option (List (Bool × Seen))
+abbrev pub listed_with : Bool → (List ℕ → Option (List (Bool × Seen))) → Found
+    → Option (List (Bool × Seen))
 listed_with spaced later None = None
 listed_with spaced later (Some found) = option_map (λ ts. (spaced, found.0) ∷ ts) (later found.1)
 
@@ -42,12 +44,14 @@ kept_tokens (Some ts) =
     then (if are_numbers_apart ts then Ok ts else Err fault.Syntax)
     else Err fault.Limit
 
-abbrev pub if_sound : {A : Type 0} → (List Seen → Result A FilterFault) → Result (List (Bool × Seen)) FilterFault → Result A FilterFault
+abbrev pub if_sound : {A : Type 0} → (List Seen → Result A FilterFault)
+    → Result (List (Bool × Seen)) FilterFault → Result A FilterFault
 if_sound parsed (Ok ts) = parsed (unspaced ts)
 if_sound parsed (Err e) = Err e
 
 -- an unknown name comes before a literal
-abbrev pub if_faultless : {A : Type 0} → Option (List ℕ) → Option (List ℕ) → A → Result A FilterFault
+abbrev pub if_faultless : {A : Type 0} → Option (List ℕ) → Option (List ℕ) → A
+    → Result A FilterFault
 if_faultless (Some name) bad meant = Err (fault.Unknown name)
 if_faultless None (Some name) meant = Err (fault.Literal name)
 if_faultless None None meant = Ok meant
@@ -56,7 +60,8 @@ abbrev pub if_parsed : {J A : Type 0} → (J → NameFaults) → (J → A) → O
 if_parsed faults meaning None = Err fault.Syntax
 if_parsed faults meaning (Some j) = if_faultless (faults j).unknown (faults j).bad (meaning j)
 
-abbrev pub outcome_by : {J A : Type 0} → (List Seen → Option J) → (J → NameFaults) → (J → A) → List ℕ → Result A FilterFault
+abbrev pub outcome_by : {J A : Type 0} → (List Seen → Option J) → (J → NameFaults) → (J → A)
+    → List ℕ → Result A FilterFault
 outcome_by parsed faults meaning text =
     if_sound (λ ts. if_parsed faults meaning (parsed ts)) (kept_tokens (tokens_of text))
 
@@ -92,7 +97,8 @@ Answers view wanted (Err fault.NoMemory) = Unit {0}
 
 -- each list of tokens that the text spells keeps the limits
 abbrev pub KeepsLimits : List ℕ → Type 0
-KeepsLimits text = (ts : List (Bool × Seen)) → SpellsTokens text ts → are_within (unspaced ts) ≡ true
+KeepsLimits text =
+    (ts : List (Bool × Seen)) → SpellsTokens text ts → are_within (unspaced ts) ≡ true
 
 -- an attribute of the type may have the value
 pub record MayHold (s : Specification) (place : ℕ) (v : Value) : Type 0 where

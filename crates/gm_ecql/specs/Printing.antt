@@ -1,6 +1,7 @@
--- The printed filter: keywords in capitals, single blanks between words, a comma and a blank between members of
--- lists, and brackets round an And or Or that is a member of another filter.
-use Rattle.std.specs.Prelude.{ℕ, ◌==◌, Bool, true, false, if◌then◌else◌, List, [], ◌∷◌, ◌++◌, codes, ℤ, Option, Some, None}
+-- The printed filter: keywords in capitals, single blanks between words, a comma and a blank
+-- between members of lists, and brackets round an And or Or that is a member of another filter.
+use Rattle.std.specs.Prelude.{ℕ, ◌==◌, Bool, true, false, if◌then◌else◌, List, [], ◌∷◌, ◌++◌, codes}
+use Rattle.std.specs.Prelude.{ℤ, Option, Some, None}
 use Rattle.std.specs.Fmt.{signed_decimal}
 use Rattle.gm_geom.specs.declared.geometry.Geometry.{Geometry}
 use Rattle.gm_geom.specs.declared.point.Box2.{Box2}
@@ -15,7 +16,9 @@ use Rattle.gm_filter.specs.declared.filter.Op.{Op}
 use Rattle.gm_filter.specs.declared.filter.Op.TheVariants as op
 use Rattle.gm_filter.specs.declared.filter.Literal.{Literal}
 use Rattle.gm_filter.specs.declared.filter.Literal.TheVariants as literal
-use Rattle.gm_filter.specs.Tree.{Tree, Trees, include, exclude, negated, all, any, compare, between, like, one_of, is_null, ids, bbox, intersects, disjoint, within, during, before, after, tequals, no_trees, tree_and}
+use Rattle.gm_filter.specs.Tree.{Tree, Trees, include, exclude, negated, all, any, compare, between}
+use Rattle.gm_filter.specs.Tree.{like, one_of, is_null, ids, bbox, intersects, disjoint, within}
+use Rattle.gm_filter.specs.Tree.{during, before, after, tequals, no_trees, tree_and}
 use Rattle.gm_ecql.specs.declared.keyword.Keyword.{Keyword}
 use Rattle.gm_ecql.specs.Tokens.{doubled}
 use Rattle.gm_ecql.specs.Words.{keyword_of}
@@ -98,7 +101,8 @@ test_text s (all ts) = []
 test_text s (any ts) = []
 test_text s (compare a op l) = name_text (name_at s a) ++ (op_text op ++ literal_text l)
 test_text s (between a low high) =
-    name_text (name_at s a) ++ (codes " BETWEEN " ++ (literal_text low ++ (codes " AND " ++ literal_text high)))
+    name_text (name_at s a)
+    ++ (codes " BETWEEN " ++ (literal_text low ++ (codes " AND " ++ literal_text high)))
 test_text s (like a pattern) = name_text (name_at s a) ++ (codes " LIKE " ++ quoted_text pattern)
 test_text s (one_of a literals) =
     name_text (name_at s a) ++ (codes " IN (" ++ (commas literal_text true literals ++ codes ")"))

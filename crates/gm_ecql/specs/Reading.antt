@@ -1,5 +1,6 @@
 -- What stands at the front of tokens, as functions: a test, step by step as the code goes.
-use Rattle.std.specs.Prelude.{ℕ, zero, suc, ◌==◌, Bool, true, false, if◌then◌else◌, List, [], ◌∷◌, length, ℤ, Option, Some, None, option_map}
+use Rattle.std.specs.Prelude.{ℕ, zero, suc, ◌==◌, Bool, true, false, if◌then◌else◌, List, [], ◌∷◌}
+use Rattle.std.specs.Prelude.{length, ℤ, Option, Some, None, option_map}
 use Rattle.gm_filter.specs.declared.filter.Op.{Op}
 use Rattle.gm_filter.specs.declared.filter.Op.TheVariants as op
 use Rattle.gm_ecql.specs.declared.keyword.Keyword.{Keyword}
@@ -12,7 +13,9 @@ use Rattle.gm_ecql.specs.declared.test.Timing.{Timing}
 use Rattle.gm_ecql.specs.declared.test.Timing.TheVariants as timing
 use Rattle.gm_ecql.specs.Geometry.{piece_at}
 use Rattle.gm_ecql.specs.Places.{keyword_place, symbol_place}
-use Rattle.gm_ecql.specs.Test.{Written, of_text, of_number, of_instant, of_truth, Sides, Question, in_box, related, compared, between, like, one_of, null, during, timed, Trial, include, exclude, ids, named}
+use Rattle.gm_ecql.specs.Test.{Written, of_text, of_number, of_instant, of_truth, Sides, Question}
+use Rattle.gm_ecql.specs.Test.{in_box, related, compared, between, like, one_of, null, during}
+use Rattle.gm_ecql.specs.Test.{timed, Trial, include, exclude, ids, named}
 use Rattle.gm_ecql.specs.Tokens.{Seen, a_keyword, a_name, a_text, an_instant, a_number, a_symbol}
 
 -- what is read at the front, and the tokens behind it
@@ -160,8 +163,10 @@ related_at r ts = do
   rest ← after_symbol symbol.Closing piece.1
   Some (named name.0 (related r piece.0), rest)
 
--- Members up to the closing bracket. The number bounds their count; that of the tokens is always enough.
-abbrev pub member_then : {A : Type 0} → Reader (List A) → A → Bool → List Seen → Option (List A × List Seen)
+-- Members up to the closing bracket. The number bounds their count; that of the tokens is always
+-- enough.
+abbrev pub member_then : {A : Type 0} → Reader (List A) → A → Bool → List Seen
+    → Option (List A × List Seen)
 member_then more x true ts = option_map (λ r. (x ∷ r.0, r.1)) (more ts)
 member_then more x false ts = Some (x ∷ [], ts)
 
@@ -173,7 +178,8 @@ members_at item (suc n) ts = do
   member_then (members_at item n) member.0 separator.0 separator.1
 
 abbrev pub list_at : {A : Type 0} → Reader A → Reader (List A)
-list_at item ts = after_symbol symbol.Opening ts >>= (λ inside. members_at item (length inside) inside)
+list_at item ts =
+    after_symbol symbol.Opening ts >>= (λ inside. members_at item (length inside) inside)
 
 abbrev pub texts_at : Reader (List (List ℕ))
 texts_at = list_at text_at
@@ -213,7 +219,8 @@ abbrev pub like_at : Bool → Reader Question
 like_at negated ts = option_map (λ r. (like negated r.0, r.1)) (text_at ts)
 
 abbrev pub null_at : Reader Question
-null_at ts = option_map (λ rest. (null (not_at ts).0, rest)) (after_keyword keyword.Null (not_at ts).1)
+null_at ts = option_map (λ rest. (null (not_at ts).0, rest))
+    (after_keyword keyword.Null (not_at ts).1)
 
 abbrev pub during_at : Reader Question
 during_at ts = do
@@ -261,5 +268,6 @@ lone_test_at ts =
 unfoldable pub test_at : Reader Trial
 test_at ts =
     or_else (name_at ts) (λ name. option_map (λ r. (named name.0 r.0, r.1)) (asked_at name.1))
-    (or_else (after_keyword keyword.In ts) (λ rest. option_map (λ r. (ids r.0, r.1)) (texts_at rest))
+    (or_else (after_keyword keyword.In ts)
+    (λ rest. option_map (λ r. (ids r.0, r.1)) (texts_at rest))
     (lone_test_at ts))

@@ -1,5 +1,7 @@
 -- The token at the front of a text as a function on its bytes.
-use Rattle.std.specs.Prelude.{ℕ, zero, suc, ◌+◌, ◌-◌, Bool, true, false, not, ◌==◌, ◌||◌, ◌&&◌, if◌then◌else◌, List, [], ◌∷◌, ◌++◌, length, take, drop, ℤ, Option, Some, None}
+use Rattle.std.specs.Prelude.{ℕ, zero, suc, ◌+◌, ◌-◌, Bool, true, false, not, ◌==◌, ◌||◌, ◌&&◌}
+use Rattle.std.specs.Prelude.{if◌then◌else◌, List, [], ◌∷◌, ◌++◌, length, take, drop, ℤ, Option}
+use Rattle.std.specs.Prelude.{Some, None}
 use Rattle.std.specs.List.{prefix_len}
 use Rattle.std.specs.Str.{is_utf8}
 use Rattle.gm_geom.specs.Number.{number_of}
@@ -8,7 +10,9 @@ use Rattle.gm_ecql.specs.declared.token.Symbol.{Symbol}
 use Rattle.gm_ecql.specs.declared.token.Symbol.TheVariants as symbol
 use Rattle.gm_ecql.specs.declared.keyword.Keyword.{Keyword}
 use Rattle.gm_ecql.specs.Words.{keyword_of}
-use Rattle.gm_ecql.specs.Tokens.{Seen, a_keyword, a_name, a_text, an_instant, a_number, a_symbol, is_blank, is_word_start, is_word_byte, is_no_double, is_sign, is_number_start, is_number_tail, undoubled}
+use Rattle.gm_ecql.specs.Tokens.{Seen, a_keyword, a_name, a_text, an_instant, a_number, a_symbol}
+use Rattle.gm_ecql.specs.Tokens.{is_blank, is_word_start, is_word_byte, is_no_double, is_sign}
+use Rattle.gm_ecql.specs.Tokens.{is_number_start, is_number_tail, undoubled}
 
 abbrev pub Found : Type 0
 Found = Option (Seen × List ℕ)
@@ -41,9 +45,12 @@ closed_name (b ∷ bs) (c ∷ rest) = if_utf8 (b ∷ bs) (a_name_then (b ∷ bs)
 
 -- behind the opening quote
 abbrev pub name_at : List ℕ → Found
-name_at bytes = closed_name (take (prefix_len is_no_double bytes) bytes) (drop (prefix_len is_no_double bytes) bytes)
+name_at bytes =
+    closed_name (take (prefix_len is_no_double bytes) bytes)
+    (drop (prefix_len is_no_double bytes) bytes)
 
--- the place of the quote that closes a text; `pending` says that the byte before is a quote that may close it
+-- the place of the quote that closes a text; `pending` says that the byte before is a quote that
+-- may close it
 unfoldable pub text_end : ℕ → Bool → List ℕ → Option ℕ
 text_end at false [] = None
 text_end at true [] = Some (at - 1)
@@ -64,7 +71,9 @@ if_instant None rest = None
 if_instant (Some ms) rest = Some (an_instant ms, rest)
 
 abbrev pub instant_at : List ℕ → Found
-instant_at bytes = if_instant (instant_of (take (prefix_len is_instant_byte bytes) bytes)) (drop (prefix_len is_instant_byte bytes) bytes)
+instant_at bytes =
+    if_instant (instant_of (take (prefix_len is_instant_byte bytes) bytes))
+    (drop (prefix_len is_instant_byte bytes) bytes)
 
 abbrev pub is_e : ℕ → Bool
 is_e b = b == 101 || b == 69
@@ -82,11 +91,15 @@ if_number None bytes rest = None
 if_number (Some n) bytes rest = if_utf8 bytes (a_number_then bytes rest)
 
 abbrev pub number_at : List ℕ → Found
-number_at bytes = if_number (number_of (take (number_end 0 true bytes) bytes)) (take (number_end 0 true bytes) bytes) (drop (number_end 0 true bytes) bytes)
+number_at bytes =
+    if_number (number_of (take (number_end 0 true bytes) bytes))
+    (take (number_end 0 true bytes) bytes) (drop (number_end 0 true bytes) bytes)
 
 abbrev pub less_at : List ℕ → Symbol × List ℕ
 less_at [] = (symbol.Less, [])
-less_at (b ∷ bs) = if b == 62 then (symbol.NotEqual, bs) else (if b == 61 then (symbol.AtMost, bs) else (symbol.Less, b ∷ bs))
+less_at (b ∷ bs) =
+    if b == 62 then (symbol.NotEqual, bs)
+    else (if b == 61 then (symbol.AtMost, bs) else (symbol.Less, b ∷ bs))
 
 abbrev pub more_at : List ℕ → Symbol × List ℕ
 more_at [] = (symbol.More, [])

@@ -53,10 +53,12 @@ constant_seen (code_constant.Instant at) = of_instant at.now
 constant_seen (code_constant.Truth b) = of_truth b
 
 abbrev pub corners_seen : Corners → Sides
-corners_seen c = record { west = c.low_x.now; south = c.low_y.now; east = c.high_x.now; north = c.high_y.now }
+corners_seen c =
+    record { west = c.low_x.now; south = c.low_y.now; east = c.high_x.now; north = c.high_y.now }
 
 abbrev pub asked_seen : Asked → Question
-asked_seen (code_asked.Bbox c system) = in_box (corners_seen c) (option_map (λ t. undoubled t.now) system)
+asked_seen (code_asked.Bbox c system) =
+    in_box (corners_seen c) (option_map (λ t. undoubled t.now) system)
 asked_seen (code_asked.Related r piece) = related r (seen_all piece.tokens.now)
 asked_seen (code_asked.Compared op c) = compared op (constant_seen c)
 asked_seen (code_asked.Between n low high) = between n (constant_seen low) (constant_seen high)

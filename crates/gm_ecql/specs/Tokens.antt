@@ -1,6 +1,8 @@
--- The tokens of a text, and how they are spelled: each piece ends where its rule says, and blanks between
--- tokens are free.
-use Rattle.std.specs.Prelude.{◌≡◌, ℕ, ◌<◌, Bool, true, false, not, ◌==◌, ◌||◌, ◌&&◌, if◌then◌else◌, List, [], ◌∷◌, ◌++◌, ◌⊎◌, length, take, map, ℤ, Option, Some, None, IsSome, IsUtf8}
+-- The tokens of a text, and how they are spelled: each piece ends where its rule says, and blanks
+-- between tokens are free.
+use Rattle.std.specs.Prelude.{◌≡◌, ℕ, ◌<◌, Bool, true, false, not, ◌==◌, ◌||◌, ◌&&◌, if◌then◌else◌}
+use Rattle.std.specs.Prelude.{List, [], ◌∷◌, ◌++◌, ◌⊎◌, length, take, map, ℤ, Option, Some, None}
+use Rattle.std.specs.Prelude.{IsSome, IsUtf8}
 use Rattle.std.specs.List.{list_all}
 use Rattle.std.specs.Char.{is_ascii_digit, is_ascii_alphabetic, is_ascii_alphanumeric}
 use Rattle.gm_geom.specs.Number.{number_of}
@@ -13,8 +15,8 @@ use Rattle.gm_ecql.specs.declared.token.Token.TheVariants as token
 use Rattle.gm_ecql.specs.declared.token.Spaced.{Spaced}
 use Rattle.gm_ecql.specs.Words.{keyword_of}
 
--- what a token says: of a word that is no keyword, and of a quoted name, the name, and of a text its bytes
--- with one quote for each pair
+-- what a token says: of a word that is no keyword, and of a quoted name, the name, and of a text
+-- its bytes with one quote for each pair
 pub data Seen : Type 0 where
   a_keyword : Keyword → Seen
   a_name : List ℕ → Seen
@@ -165,7 +167,8 @@ abbrev pub is_some_list : List ℕ → Bool
 is_some_list [] = false
 is_some_list (b ∷ bs) = true
 
--- the text is blanks, a piece that spells the token, and the rest; `spaced` says whether there are blanks
+-- the text is blanks, a piece that spells the token, and the rest; `spaced` says whether there are
+-- blanks
 pub record IsFirst (bytes : List ℕ) (spaced : Bool) (seen : Seen) (rest : List ℕ) : Type 0 where
   pub blanks : List ℕ
   pub piece : List ℕ

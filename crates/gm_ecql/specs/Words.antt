@@ -1,9 +1,16 @@
 -- Keywords, in any ASCII case.
-use Rattle.std.specs.Prelude.{ℕ, Bool, true, false, ◌==◌, if◌then◌else◌, List, [], ◌∷◌, map, codes, Option, Some, None}
+use Rattle.std.specs.Prelude.{ℕ, Bool, true, false, ◌==◌, if◌then◌else◌, List, [], ◌∷◌, map, codes}
+use Rattle.std.specs.Prelude.{Option, Some, None}
 use Rattle.std.specs.Char.{to_ascii_lowercase}
 use Rattle.std.specs.Cmp.Lexicographic.{pointwise}
 use Rattle.gm_ecql.specs.declared.keyword.Keyword.{Keyword}
-use Rattle.gm_ecql.specs.declared.keyword.Keyword.TheVariants.{And, Or, Not, In, Is, Null, Between, Like, Include, Exclude, Bbox, Intersects, Disjoint, Within, During, Before, After, Tequals, True, False, Where, Point, LineString, Polygon, MultiPoint, MultiLineString, MultiPolygon}
+use Rattle.gm_ecql.specs.declared.keyword.Keyword.TheVariants.{And, Or, Not, In, Is, Null, Between}
+use Rattle.gm_ecql.specs.declared.keyword.Keyword.TheVariants.{Like, Include, Exclude, Bbox}
+use Rattle.gm_ecql.specs.declared.keyword.Keyword.TheVariants.{Intersects, Disjoint, Within, During}
+use Rattle.gm_ecql.specs.declared.keyword.Keyword.TheVariants.{Before, After, Tequals, True, False}
+use Rattle.gm_ecql.specs.declared.keyword.Keyword.TheVariants.{Where, Point, LineString, Polygon}
+use Rattle.gm_ecql.specs.declared.keyword.Keyword.TheVariants.{MultiPoint, MultiLineString}
+use Rattle.gm_ecql.specs.declared.keyword.Keyword.TheVariants.{MultiPolygon}
 
 abbrev pub keyword_text : Keyword → List ℕ
 keyword_text And = codes "AND"
@@ -36,8 +43,10 @@ keyword_text MultiPolygon = codes "MULTIPOLYGON"
 
 abbrev pub keywords : List Keyword
 keywords =
-    And ∷ Or ∷ Not ∷ In ∷ Is ∷ Null ∷ Between ∷ Like ∷ Include ∷ Exclude ∷ Bbox ∷ Intersects ∷ Disjoint
-    ∷ Within ∷ During ∷ Before ∷ After ∷ Tequals ∷ True ∷ False ∷ Where ∷ Point ∷ LineString ∷ Polygon
+    And ∷ Or ∷ Not ∷ In ∷ Is ∷ Null ∷ Between ∷ Like ∷ Include ∷ Exclude ∷ Bbox
+    ∷ Intersects ∷ Disjoint
+    ∷ Within ∷ During ∷ Before ∷ After ∷ Tequals ∷ True ∷ False ∷ Where ∷ Point
+    ∷ LineString ∷ Polygon
     ∷ MultiPoint ∷ MultiLineString ∷ MultiPolygon ∷ []
 
 -- whether letters in lower case are those of the keyword

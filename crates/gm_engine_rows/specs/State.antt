@@ -1,5 +1,6 @@
 -- The state of a store: its types with their features.
-use Rattle.std.specs.Prelude.{◌≡◌, ℕ, zero, suc, true, List, [], ◌∷◌, ◌++◌, map, slice_get, Option, Some, None}
+use Rattle.std.specs.Prelude.{◌≡◌, ℕ, zero, suc, true, List, [], ◌∷◌, ◌++◌, map, slice_get, Option}
+use Rattle.std.specs.Prelude.{Some, None}
 use Rattle.std.specs.Ordering.{nat_cmp}
 use Rattle.std.specs.Cmp.Lexicographic.{slice_cmp}
 use Rattle.std.specs.FinMap as features
@@ -63,9 +64,11 @@ pub record IsHeld (t : Specification) (id : List ℕ) (feature : Feature) : Type
   pub fits : Fits t feature
   pub named : feature.id ≡ id
 
--- types that stand at their numbers, with distinct names, whose features fit and are bound to their identifiers
+-- types that stand at their numbers, with distinct names, whose features fit and are bound to their
+-- identifiers
 pub record IsState (s : State) : Type 0 where
   pub placed : (n : ℕ) (t : Specification) → type_at n s ≡ Some t → IsPlaced n t
   pub distinct : are_distinct (map (λ t. t.name) (types_of s)) ≡ true
-  pub held : (n : ℕ) (t : Specification) (id : List ℕ) (feature : Feature) → type_at n s ≡ Some t → feature_at n id s ≡ Some feature
+  pub held : (n : ℕ) (t : Specification) (id : List ℕ) (feature : Feature) → type_at n s ≡ Some t
+      → feature_at n id s ≡ Some feature
       → IsHeld t id feature

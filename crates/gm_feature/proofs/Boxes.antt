@@ -3,7 +3,8 @@ use Rattle.std.proofs.Common.{◌≡◌, List, [], ◌∷◌, Some, fold, subst,
 use Rattle.std.proofs.lemmas.Int.{ints, clamps}
 use Rattle.gm_geom.specs.declared.point.Point.{Point}
 use Rattle.gm_geom.specs.declared.point.Box2.{Box2}
-use Rattle.gm_geom.specs.Extent.{IsInBox, IsBoxInside, HoldsAll, IsLeastBox, widened, extent_of, low_corner, high_corner}
+use Rattle.gm_geom.specs.Extent.{IsInBox, IsBoxInside, HoldsAll, IsLeastBox, widened, extent_of}
+use Rattle.gm_geom.specs.Extent.{low_corner, high_corner}
 
 -- what the extent of some points and a box is
 record Grows (box : Box2) (points : List Point) (grown : Box2) : Type 0 where
@@ -14,7 +15,8 @@ record Grows (box : Box2) (points : List Point) (grown : Box2) : Type 0 where
 abbrev with_point : Box2 → Point → Box2
 with_point box p = record { low = low_corner box.low p; high = high_corner box.high p }
 
-keeps_box : (outer box : Box2) (p : Point) → IsBoxInside outer (with_point box p) → IsBoxInside outer box
+keeps_box : (outer box : Box2) (p : Point) → IsBoxInside outer (with_point box p)
+    → IsBoxInside outer box
 keeps_box outer box p held = record {
   left = omega (arith, ints, clamps, held.left);
   right = omega (arith, ints, clamps, held.right);
@@ -22,7 +24,8 @@ keeps_box outer box p held = record {
   above = omega (arith, ints, clamps, held.above);
 }
 
-keeps_point : (outer box : Box2) (p : Point) → IsBoxInside outer (with_point box p) → IsInBox outer p
+keeps_point : (outer box : Box2) (p : Point) → IsBoxInside outer (with_point box p)
+    → IsInBox outer p
 keeps_point outer box p held = record {
   left = omega (arith, ints, clamps, held.left);
   right = omega (arith, ints, clamps, held.right);
@@ -30,7 +33,8 @@ keeps_point outer box p held = record {
   above = omega (arith, ints, clamps, held.above);
 }
 
-keeps_both : (outer box : Box2) (p : Point) → IsBoxInside outer box → IsInBox outer p → IsBoxInside outer (with_point box p)
+keeps_both : (outer box : Box2) (p : Point) → IsBoxInside outer box → IsInBox outer p
+    → IsBoxInside outer (with_point box p)
 keeps_both outer box p held at = record {
   left = omega (arith, ints, clamps, held.left, at.left);
   right = omega (arith, ints, clamps, held.right, at.right);
@@ -39,9 +43,15 @@ keeps_both outer box p held at = record {
 }
 
 itself : (box : Box2) → IsBoxInside box box
-itself box = record { left = omega (arith, ints); right = omega (arith, ints); below = omega (arith, ints); above = omega (arith, ints) }
+itself box = record {
+  left = omega (arith, ints);
+  right = omega (arith, ints);
+  below = omega (arith, ints);
+  above = omega (arith, ints);
+}
 
-grows : (box : Box2) (points : List Point) (grown : Box2) → fold widened (Some box) points ≡ Some grown → Grows box points grown
+grows : (box : Box2) (points : List Point) (grown : Box2)
+    → fold widened (Some box) points ≡ Some grown → Grows box points grown
 grows box [] grown e =
     let same : box ≡ grown = cc in
     let P : Box2 → Type 0 = λ b. Grows box [] b in
@@ -53,10 +63,26 @@ grows box (p ∷ ps) grown e =
       least = λ other inside all. rest.least other (keeps_both other box p inside all.0) all.1;
     }
 
-pub extent_is_least : (points : List Point) (box : Box2) → extent_of points ≡ Some box → IsLeastBox box points
+pub extent_is_least : (points : List Point) (box : Box2) → extent_of points ≡ Some box
+    → IsLeastBox box points
 extent_is_least [] box e = absurd (cc)
 extent_is_least (p ∷ ps) box e =
-    let rest : Grows (record { low = p; high = p }) ps box = grows (record { low = p; high = p }) ps box e in record {
-      holds = (record { left = rest.keeps.left; right = rest.keeps.right; below = rest.keeps.below; above = rest.keeps.above }, rest.holds);
-      least = λ other all. rest.least other (record { left = all.0.left; right = all.0.right; below = all.0.below; above = all.0.above }) all.1;
+    let rest : Grows (record { low = p; high = p }) ps box =
+    grows (record { low = p; high = p }) ps box e in record {
+      holds = (
+        record {
+          left = rest.keeps.left;
+          right = rest.keeps.right;
+          below = rest.keeps.below;
+          above = rest.keeps.above;
+        },
+        rest.holds,
+      );
+      least = λ other all. rest.least other
+          (record {
+            left = all.0.left;
+            right = all.0.right;
+            below = all.0.below;
+            above = all.0.above;
+          }) all.1;
     }

@@ -1,5 +1,6 @@
 -- Features, and which of them fit a type.
-use Rattle.std.specs.Prelude.{◌≡◌, ℕ, Bool, true, false, ◌&&◌, ◌||◌, not, List, [], ◌∷◌, get_or, is_some, Option, Some, None}
+use Rattle.std.specs.Prelude.{◌≡◌, ℕ, Bool, true, false, ◌&&◌, ◌||◌, not, List, [], ◌∷◌, get_or}
+use Rattle.std.specs.Prelude.{is_some, Option, Some, None}
 use Rattle.gm_base.specs.Identifier.{is_identifier}
 use Rattle.gm_calendar.specs.Bin.{bin_at}
 use Rattle.gm_calendar.specs.declared.period.Period.{Period}
@@ -46,7 +47,8 @@ dates_fit t values = not (has_time_index t) || date_has_bin (period_of t) (defau
 -- the feature fits the type, as a test
 abbrev pub fits : Specification → Feature → Bool
 fits t feature =
-    is_identifier feature.id && (values_fit (kinds_of t) feature.values && dates_fit t feature.values)
+    is_identifier feature.id
+    && (values_fit (kinds_of t) feature.values && dates_fit t feature.values)
 
 -- the same as a fact
 pub record Fits (t : Specification) (feature : Feature) : Type 0 where

@@ -30,8 +30,8 @@ abbrev pub is_point : Geometry → Bool
 is_point (geo.Point point) = true
 is_point _ = false
 
--- the geometry is kept and no lone point, the bytes are its own, and the bounds are the least box of
--- all its points
+-- the geometry is kept and no lone point, the bytes are its own, and the bounds are the least box
+-- of all its points
 pub record IsStoredGeometry (s : StoredGeometry) (g : Geometry) : Type 0 where
   pub kept : fault_of g ≡ None
   pub many : is_point g ≡ false
@@ -47,5 +47,6 @@ Says (stored.Integer z) v = v ≡ value.Integer z
 Says (stored.Long z) v = v ≡ value.Long z
 Says (stored.Boolean b) v = v ≡ value.Boolean b
 Says (stored.Date at) v = v ≡ value.Date at
-Says (stored.Point point) v = (fault_of (geo.Point point) ≡ None) × (v ≡ value.Geo (geo.Point point))
+Says (stored.Point point) v =
+    (fault_of (geo.Point point) ≡ None) × (v ≡ value.Geo (geo.Point point))
 Says (stored.Geometry s) v = (g : Geometry) × IsStoredGeometry s g × (v ≡ value.Geo g)

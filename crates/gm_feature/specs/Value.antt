@@ -1,5 +1,6 @@
 -- Values, and which of them an attribute of a kind holds.
-use Rattle.std.specs.Prelude.{ℕ, ◌^◌, Bool, true, false, not, ◌&&◌, ◌==◌, nat_lt, nat_le, ℤ, pos, negsuc, List, length, is_none}
+use Rattle.std.specs.Prelude.{ℕ, ◌^◌, Bool, true, false, not, ◌&&◌, ◌==◌, nat_lt, nat_le, ℤ, pos}
+use Rattle.std.specs.Prelude.{negsuc, List, length, is_none}
 use Rattle.std.specs.List.{list_all}
 use Rattle.std.specs.Str.{is_utf8}
 use Rattle.gm_calendar.specs.Instant.{is_instant}
@@ -35,7 +36,8 @@ is_of_kind kind.Date (value.Date at) = true
 is_of_kind (kind.Geo shape) (value.Geo geometry) = has_shape shape geometry
 is_of_kind _ _ = false
 
--- a text is UTF-8 of that form, a number has 32 or 64 bits, a date is an instant, a geometry is kept
+-- a text is UTF-8 of that form, a number has 32 or 64 bits, a date is an instant, a geometry is
+-- kept
 abbrev pub is_sound : Value → Bool
 is_sound value.Null = true
 is_sound (value.Text bytes) = is_utf8 bytes && has_text_form bytes

@@ -1,5 +1,6 @@
 -- What is told of values that are seen in place.
-use Rattle.std.proofs.Common.{◌≡◌, ◌↔◌, inl, inr, Bool, true, false, ◌≤ℤ◌, List, [], ◌∷◌, ℕ, refl, sym, ◌∙◌, arith, true≢false}
+use Rattle.std.proofs.Common.{◌≡◌, ◌↔◌, inl, inr, Bool, true, false, ◌≤ℤ◌, List, [], ◌∷◌, ℕ, refl}
+use Rattle.std.proofs.Common.{sym, ◌∙◌, arith, true≢false}
 use Rattle.std.proofs.lemmas.Bool.{and_parts, and_from, cases_Bool}
 use Rattle.std.proofs.lemmas.Int.{ints}
 use Rattle.std.proofs.lemmas.Str.{IsUtf8-from_is_utf8}
@@ -44,7 +45,12 @@ in_where_overlapping p b h =
     let parts = and_parts (reaches (lone_box p) b) (reaches b (lone_box p)) h in
     let high = and_parts (int_le p.x b.high.x) (int_le p.y b.high.y) parts.0 in
     let low = and_parts (int_le b.low.x p.x) (int_le b.low.y p.y) parts.1 in
-    record { left = le_from _ _ low.0; right = le_from _ _ high.0; below = le_from _ _ low.1; above = le_from _ _ high.1 }
+    record {
+      left = le_from _ _ low.0;
+      right = le_from _ _ high.0;
+      below = le_from _ _ low.1;
+      above = le_from _ _ high.1;
+    }
 
 overlapping_where_in : (p : Point) (b : Box2) → IsInBox b p → do_overlap (lone_box p) b ≡ true
 overlapping_where_in p b h =
@@ -52,14 +58,19 @@ overlapping_where_in p b h =
     (and_from _ _ (le_test p.x b.high.x h.right) (le_test p.y b.high.y h.above))
     (and_from _ _ (le_test b.low.x p.x h.left) (le_test b.low.y p.y h.below))
 
-pub point_meets : (p : Point) (b : Box2) → ((do_intersect (geo.Point p) (box_area b) ≡ true) ↔ IsInBox b p) → do_overlap (lone_box p) b ≡ do_intersect (geo.Point p) (box_area b)
-point_meets p b meets = same_answer _ _ (λ over. meets.1 (in_where_overlapping p b over)) (λ met. overlapping_where_in p b (meets.0 met))
+pub point_meets : (p : Point) (b : Box2)
+    → ((do_intersect (geo.Point p) (box_area b) ≡ true) ↔ IsInBox b p)
+    → do_overlap (lone_box p) b ≡ do_intersect (geo.Point p) (box_area b)
+point_meets p b meets =
+    same_answer _ _ (λ over. meets.1 (in_where_overlapping p b over))
+    (λ met. overlapping_where_in p b (meets.0 met))
 
 -- ---- what is no point lies within nothing
 
 -- ---- no geometry is one of some literals
 
-pub no_geometry_among : (g : Geometry) (literals : List Literal) → is_one_of (value.Geo g) literals ≡ false
+pub no_geometry_among : (g : Geometry) (literals : List Literal)
+    → is_one_of (value.Geo g) literals ≡ false
 no_geometry_among g [] = refl
 no_geometry_among g (l ∷ literals) = no_geometry_among g literals
 

@@ -1,5 +1,7 @@
 -- What suits a type may be tried on what fits the type.
-use Rattle.std.proofs.Common.{◌≡◌, ℕ, zero, suc, ◌<◌, ◌≤◌, Bool, true, false, ◌&&◌, List, [], ◌∷◌, length, map, get_or, refl, sym, ap, ◌∙◌, Option, Some, None, arith, true≢false}
+use Rattle.std.proofs.Common.{◌≡◌, ℕ, zero, suc, ◌<◌, ◌≤◌, Bool, true, false, ◌&&◌, List, [], ◌∷◌}
+use Rattle.std.proofs.Common.{length, map, get_or, refl, sym, ap, ◌∙◌, Option, Some, None, arith}
+use Rattle.std.proofs.Common.{true≢false}
 use Rattle.std.proofs.lemmas.Bool.{and_parts}
 use Rattle.std.proofs.lemmas.Int.{ints}
 use Rattle.std.specs.Prelude.{is_none, int_le, ◌≤ℤ◌, ℤ}
@@ -15,15 +17,19 @@ use Rattle.gm_feature.specs.declared.value.Value.TheVariants as value
 use Rattle.gm_feature.specs.declared.feature.Feature.{Feature}
 use Rattle.gm_feature.specs.Feature.{Fits, values_fit, value_at}
 use Rattle.gm_feature.specs.Value.{value_fits, is_of_kind, is_sound}
-use Rattle.gm_filter.specs.Suits.{suits, all_suit, Suits, SuitOneType, passes_kind, is_box, is_kept, has_area}
-use Rattle.gm_filter.specs.Tree.{Tree, Trees, include, exclude, negated, all, any, compare, between, like, one_of, is_null, ids, bbox, intersects, disjoint, within, during, before, after, tequals, no_trees, tree_and, members_of}
+use Rattle.gm_filter.specs.Suits.{suits, all_suit, Suits, SuitOneType, passes_kind, is_box, is_kept}
+use Rattle.gm_filter.specs.Suits.{has_area}
+use Rattle.gm_filter.specs.Tree.{Tree, Trees, include, exclude, negated, all, any, compare, between}
+use Rattle.gm_filter.specs.Tree.{like, one_of, is_null, ids, bbox, intersects, disjoint, within}
+use Rattle.gm_filter.specs.Tree.{during, before, after, tequals, no_trees, tree_and, members_of}
 use Rattle.gm_filter.specs.Trial.{MayTry, MayTryAll, IsKeptValue, IsRisingBox, HasPlace}
 
 pub none_is : {A : Type 0} (o : Option A) → is_none o ≡ true → o ≡ None
 none_is None h = refl
 none_is (Some x) h = absurd (true≢false (sym h))
 
-pub kind_there : (test : Kind → Bool) (ks : List Kind) (a : ℕ) → passes_kind test (slice_get ks a) ≡ true → a < length ks
+pub kind_there : (test : Kind → Bool) (ks : List Kind) (a : ℕ)
+    → passes_kind test (slice_get ks a) ≡ true → a < length ks
 kind_there test [] a h = absurd (true≢false (sym h))
 kind_there test (k ∷ ks) zero h = omega arith
 kind_there test (k ∷ ks) (suc a) h = let there = kind_there test ks a h in omega arith
@@ -43,22 +49,28 @@ kept_where_sound (value.Boolean b) h = tt
 kept_where_sound (value.Date at) h = tt
 kept_where_sound (value.Geo g) h = none_is (fault_of g) h
 
-pub sound_at : (ks : List Kind) (vs : List Value) (a : ℕ) → values_fit ks vs ≡ true → is_sound (get_or vs a value.Null) ≡ true
+pub sound_at : (ks : List Kind) (vs : List Value) (a : ℕ) → values_fit ks vs ≡ true
+    → is_sound (get_or vs a value.Null) ≡ true
 sound_at [] [] a h = refl
 sound_at [] (v ∷ vs) a h = absurd (true≢false (sym h))
 sound_at (k ∷ ks) [] a h = absurd (true≢false (sym h))
-sound_at (k ∷ ks) (v ∷ vs) zero h = (and_parts (is_of_kind k v) _ (and_parts (value_fits k v) _ h).0).1
+sound_at (k ∷ ks) (v ∷ vs) zero h =
+    (and_parts (is_of_kind k v) _ (and_parts (value_fits k v) _ h).0).1
 sound_at (k ∷ ks) (v ∷ vs) (suc a) h = sound_at ks vs a (and_parts (value_fits k v) _ h).1
 
 pub le_from : (m n : ℤ) → int_le m n ≡ true → m ≤ℤ n
 le_from m n h = omega (arith, ints, h)
 
 pub rising : (b : Box2) → is_box b ≡ true → IsRisingBox b
-rising b h = let parts = and_parts (int_le b.low.x b.high.x) _ (and_parts (is_in_world b.low && is_in_world b.high) _ h).1 in (le_from b.low.x b.high.x parts.0, le_from b.low.y b.high.y parts.1)
+rising b h = let parts =
+    and_parts (int_le b.low.x b.high.x) _
+    (and_parts (is_in_world b.low && is_in_world b.high) _ h).1 in
+    (le_from b.low.x b.high.x parts.0, le_from b.low.y b.high.y parts.1)
 
 module _ (s : Specification) (f : Feature) (fits : Fits s f) where
   there : (test : Kind → Bool) (a : ℕ) → passes_kind test (kind_at s a) ≡ true → HasPlace f a
-  there test a h = omega (arith, kind_there test (kinds_of s) a h, as_many (kinds_of s) f.values fits.each)
+  there test a h =
+      omega (arith, kind_there test (kinds_of s) a h, as_many (kinds_of s) f.values fits.each)
 
   kept_at : (a : ℕ) → IsKeptValue (value_at f a)
   kept_at a = kept_where_sound (value_at f a) (sound_at (kinds_of s) f.values a fits.each)
@@ -76,9 +88,16 @@ module _ (s : Specification) (f : Feature) (fits : Fits s f) where
     may_try (one_of a literals) h = there _ a (and_parts _ (passes_kind _ (kind_at s a)) h).1
     may_try (is_null a) h = there _ a h
     may_try (ids texts) h = tt
-    may_try (bbox a b) h = (there _ a (and_parts (is_box b) _ h).1, (kept_at a, rising b (and_parts (is_box b) _ h).0))
-    may_try (intersects a g) h = (there _ a (and_parts (is_kept g) _ h).1, (kept_at a, none_is (fault_of g) (and_parts (is_kept g) _ h).0))
-    may_try (disjoint a g) h = (there _ a (and_parts (is_kept g) _ h).1, (kept_at a, none_is (fault_of g) (and_parts (is_kept g) _ h).0))
+    may_try (bbox a b) h =
+        (there _ a (and_parts (is_box b) _ h).1, (kept_at a, rising b (and_parts (is_box b) _ h).0))
+    may_try (intersects a g) h = (
+      there _ a (and_parts (is_kept g) _ h).1,
+      (kept_at a, none_is (fault_of g) (and_parts (is_kept g) _ h).0),
+    )
+    may_try (disjoint a g) h = (
+      there _ a (and_parts (is_kept g) _ h).1,
+      (kept_at a, none_is (fault_of g) (and_parts (is_kept g) _ h).0),
+    )
     may_try (within a g) h = there _ a (and_parts (has_area g && is_kept g) _ h).1
     may_try (during a low high) h = there _ a (and_parts _ (passes_kind _ (kind_at s a)) h).1
     may_try (before a at) h = there _ a (and_parts _ (passes_kind _ (kind_at s a)) h).1
@@ -87,4 +106,5 @@ module _ (s : Specification) (f : Feature) (fits : Fits s f) where
 
     pub may_try_all : (ts : Trees) → all_suit s ts ≡ true → MayTryAll f ts
     may_try_all no_trees h = tt
-    may_try_all (tree_and t ts) h = let parts = and_parts (suits s t) _ h in (may_try t parts.0, may_try_all ts parts.1)
+    may_try_all (tree_and t ts) h = let parts = and_parts (suits s t) _ h in
+        (may_try t parts.0, may_try_all ts parts.1)

@@ -1,5 +1,6 @@
 -- How far a pattern matches before its first `%`.
-use Rattle.std.specs.Prelude.{◌≡◌, ◌≢◌, ℕ, ◌≤◌, if◌then◌else◌, ◌==◌, List, [], ◌∷◌, ◌++◌, length, drop}
+use Rattle.std.specs.Prelude.{◌≡◌, ◌≢◌, ℕ, ◌≤◌, if◌then◌else◌, ◌==◌, List, [], ◌∷◌, ◌++◌, length}
+use Rattle.std.specs.Prelude.{drop}
 use Rattle.std.specs.List.{AllByRecursion}
 use Rattle.gm_filter.specs.declared.wildcards.Run.{Run}
 use Rattle.gm_filter.specs.declared.wildcards.Run.TheVariants.{Ends, Percent}

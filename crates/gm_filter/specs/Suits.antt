@@ -1,5 +1,7 @@
--- Which filters suit a type: what may be tested of an attribute of each kind, and with which literals.
-use Rattle.std.specs.Prelude.{◌≡◌, ℕ, ◌^◌, Bool, true, false, not, ◌&&◌, nat_le, int_le, ℤ, List, length, Option, Some, None, is_none}
+-- Which filters suit a type: what may be tested of an attribute of each kind, and with which
+-- literals.
+use Rattle.std.specs.Prelude.{◌≡◌, ℕ, ◌^◌, Bool, true, false, not, ◌&&◌, nat_le, int_le, ℤ, List}
+use Rattle.std.specs.Prelude.{length, Option, Some, None, is_none}
 use Rattle.std.specs.List.{list_all}
 use Rattle.std.specs.Str.{is_utf8}
 use Rattle.gm_calendar.specs.Instant.{is_instant}
@@ -19,7 +21,9 @@ use Rattle.gm_filter.specs.declared.filter.Op.{Op}
 use Rattle.gm_filter.specs.declared.filter.Op.TheVariants.{Eq, Ne, Lt, Le, Gt, Ge}
 use Rattle.gm_filter.specs.declared.filter.Literal.{Literal}
 use Rattle.gm_filter.specs.declared.filter.Literal.TheVariants as literal
-use Rattle.gm_filter.specs.Tree.{Tree, Trees, include, exclude, negated, all, any, compare, between, like, one_of, is_null, ids, bbox, intersects, disjoint, within, during, before, after, tequals, no_trees, tree_and, members_of}
+use Rattle.gm_filter.specs.Tree.{Tree, Trees, include, exclude, negated, all, any, compare, between}
+use Rattle.gm_filter.specs.Tree.{like, one_of, is_null, ids, bbox, intersects, disjoint, within}
+use Rattle.gm_filter.specs.Tree.{during, before, after, tequals, no_trees, tree_and, members_of}
 
 -- a literal of the kind: a number of its 32 or 64 bits, a text in UTF-8, an instant
 abbrev pub is_literal_of : Kind → Literal → Bool
@@ -80,7 +84,8 @@ has_area _ = false
 
 -- a box in the world, the least first
 abbrev pub is_box : Box2 → Bool
-is_box b = (is_in_world b.low && is_in_world b.high) && (int_le b.low.x b.high.x && int_le b.low.y b.high.y)
+is_box b = (is_in_world b.low && is_in_world b.high)
+    && (int_le b.low.x b.high.x && int_le b.low.y b.high.y)
 
 -- there is such an attribute, and its kind passes
 abbrev pub passes_kind : (Kind → Bool) → Option Kind → Bool
@@ -97,14 +102,16 @@ abbrev mutual
   suits s (compare a op l) = passes_kind (may_compare op l) (kind_at s a)
   suits s (between a low high) = passes_kind (may_lie_between low high) (kind_at s a)
   suits s (like a pattern) = is_utf8 pattern && passes_kind is_text (kind_at s a)
-  suits s (one_of a literals) = nat_le 1 (length literals) && passes_kind (may_be_one_of literals) (kind_at s a)
+  suits s (one_of a literals) =
+      nat_le 1 (length literals) && passes_kind (may_be_one_of literals) (kind_at s a)
   suits s (is_null a) = passes_kind is_any_kind (kind_at s a)
   suits s (ids texts) = nat_le 1 (length texts) && list_all is_utf8 texts
   suits s (bbox a b) = is_box b && passes_kind is_geometry (kind_at s a)
   suits s (intersects a g) = is_kept g && passes_kind is_geometry (kind_at s a)
   suits s (disjoint a g) = is_kept g && passes_kind is_geometry (kind_at s a)
   suits s (within a g) = (has_area g && is_kept g) && passes_kind is_point_kind (kind_at s a)
-  suits s (during a low high) = (is_instant low && is_instant high) && passes_kind is_date (kind_at s a)
+  suits s (during a low high) =
+      (is_instant low && is_instant high) && passes_kind is_date (kind_at s a)
   suits s (before a at) = is_instant at && passes_kind is_date (kind_at s a)
   suits s (after a at) = is_instant at && passes_kind is_date (kind_at s a)
   suits s (tequals a at) = is_instant at && passes_kind is_date (kind_at s a)

@@ -1,6 +1,8 @@
 -- Which value a test is of.
 use Rattle.std.specs.Prelude.{ℕ, Option, Some, None}
-use Rattle.gm_filter.specs.Tree.{Tree, include, exclude, negated, all, any, compare, between, like, one_of, is_null, ids, bbox, intersects, disjoint, within, during, before, after, tequals}
+use Rattle.gm_filter.specs.Tree.{Tree, include, exclude, negated, all, any, compare, between, like}
+use Rattle.gm_filter.specs.Tree.{one_of, is_null, ids, bbox, intersects, disjoint, within, during}
+use Rattle.gm_filter.specs.Tree.{before, after, tequals}
 
 -- the attribute of whose value the filter is a test that no null passes
 abbrev pub tested_of : Tree → Option ℕ

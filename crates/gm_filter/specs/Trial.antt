@@ -1,4 +1,5 @@
--- What trying a filter on a feature needs: values at the places that it names, and geometries that are kept.
+-- What trying a filter on a feature needs: values at the places that it names, and geometries that
+-- are kept.
 use Rattle.std.specs.Prelude.{◌≡◌, ◌≤ℤ◌, ℕ, ◌<◌, length, None}
 use Rattle.gm_geom.specs.declared.point.Box2.{Box2}
 use Rattle.gm_geom.specs.declared.geometry.Geometry.{Geometry}
@@ -9,7 +10,9 @@ use Rattle.gm_feature.specs.declared.feature.Feature.{Feature}
 use Rattle.gm_feature.specs.Feature.{value_at}
 use Rattle.gm_feature.specs.declared.stored.Stored.{Stored}
 use Rattle.gm_feature.specs.Stored.{IsStored}
-use Rattle.gm_filter.specs.Tree.{Tree, Trees, include, exclude, negated, all, any, compare, between, like, one_of, is_null, ids, bbox, intersects, disjoint, within, during, before, after, tequals, no_trees, tree_and}
+use Rattle.gm_filter.specs.Tree.{Tree, Trees, include, exclude, negated, all, any, compare, between}
+use Rattle.gm_filter.specs.Tree.{like, one_of, is_null, ids, bbox, intersects, disjoint, within}
+use Rattle.gm_filter.specs.Tree.{during, before, after, tequals, no_trees, tree_and}
 
 -- the value is no geometry, or one that is kept
 abbrev pub IsKeptValue : Value → Type 0

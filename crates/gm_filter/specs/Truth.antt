@@ -1,4 +1,5 @@
--- What it means that a filter is true of a feature. There are two values: what is not true is false.
+-- What it means that a filter is true of a feature. There are two values: what is not true is
+-- false.
 use Rattle.std.specs.Prelude.{ℕ, Bool, true, false, not, ◌&&◌, ◌||◌, List}
 use Rattle.std.specs.List.{list_any}
 use Rattle.std.specs.Str.{bytes_eq}
@@ -15,7 +16,9 @@ use Rattle.gm_filter.specs.declared.filter.Literal.{Literal}
 use Rattle.gm_filter.specs.declared.filter.Literal.TheVariants as literal
 use Rattle.gm_filter.specs.Comparison.{compares}
 use Rattle.gm_filter.specs.Like.{is_like}
-use Rattle.gm_filter.specs.Tree.{Tree, Trees, include, exclude, negated, all, any, compare, between, like, one_of, is_null, ids, bbox, intersects, disjoint, within, during, before, after, tequals, no_trees, tree_and}
+use Rattle.gm_filter.specs.Tree.{Tree, Trees, include, exclude, negated, all, any, compare, between}
+use Rattle.gm_filter.specs.Tree.{like, one_of, is_null, ids, bbox, intersects, disjoint, within}
+use Rattle.gm_filter.specs.Tree.{during, before, after, tequals, no_trees, tree_and}
 
 abbrev pub is_null_value : Value → Bool
 is_null_value value.Null = true

@@ -1,5 +1,6 @@
 -- LIKE over the bytes of UTF-8, where a character is a byte and the continuation bytes behind it.
-use Rattle.std.specs.Prelude.{ℕ, ◌/◌, ◌==◌, ◌&&◌, ◌||◌, Bool, true, not, if◌then◌else◌, List, [], ◌∷◌}
+use Rattle.std.specs.Prelude.{ℕ, ◌/◌, ◌==◌, ◌&&◌, ◌||◌, Bool, true, not, if◌then◌else◌, List, []}
+use Rattle.std.specs.Prelude.{◌∷◌}
 use Rattle.gm_filter.specs.Like.{is_empty, behind_first}
 
 -- a byte inside a character, after its first
@@ -13,7 +14,8 @@ past_continuation (b ∷ bs) = if is_continuation b then past_continuation bs el
 -- what begins at some character of the text, or at its end, passes
 abbrev pub some_suffix_from : (List ℕ → Bool) → List ℕ → Bool
 some_suffix_from test [] = test []
-some_suffix_from test (b ∷ bs) = (not (is_continuation b) && test (b ∷ bs)) || some_suffix_from test bs
+some_suffix_from test (b ∷ bs) =
+    (not (is_continuation b) && test (b ∷ bs)) || some_suffix_from test bs
 
 abbrev pub matches : List ℕ → List ℕ → Bool
 matches [] = is_empty

@@ -1,26 +1,36 @@
 -- Pieces appended to a text one behind the other.
-use Rattle.std.proofs.Common.{◌≡◌, ℕ, ◌+◌, ◌/◌, ◌%◌, ◌^◌, ◌<◌, ◌≤◌, List, [], ◌∷◌, ◌++◌, sym, ap, ◌∙◌, append_assoc}
+use Rattle.std.proofs.Common.{◌≡◌, ℕ, ◌+◌, ◌/◌, ◌%◌, ◌^◌, ◌<◌, ◌≤◌, List, [], ◌∷◌, ◌++◌, sym, ap}
+use Rattle.std.proofs.Common.{◌∙◌, append_assoc}
 use Rattle.std.specs.Prelude.{Result, Ok, Err, OnOk}
 use Rattle.std.specs.Fmt.{decimal}
 use Rattle.std.proofs.lemmas.Fmt.{decimal_digit, decimal_step}
 use Rattle.gm_geom.specs.Number.{BeginsWith}
 
 -- what begins with a text that begins with a text
-pub begins_further : (start middle end : List ℕ) → BeginsWith middle start → BeginsWith end middle → BeginsWith end start
-begins_further start middle end a b = (a.0 ++ b.0, b.1 ∙ ap (λ t. t ++ b.0) a.1 ∙ append_assoc start a.0 b.0)
+pub begins_further : (start middle end : List ℕ) → BeginsWith middle start → BeginsWith end middle
+    → BeginsWith end start
+begins_further start middle end a b =
+    (a.0 ++ b.0, b.1 ∙ ap (λ t. t ++ b.0) a.1 ∙ append_assoc start a.0 b.0)
 
 -- the last digit behind the others
-pub last_digit : (start middle end : List ℕ) (n : ℕ) → 10 ≤ n → n < 2 ^ 64 → middle ≡ start ++ decimal (n / 10) → end ≡ middle ++ (48 + n % 10) ∷ [] → end ≡ start ++ decimal n
+pub last_digit : (start middle end : List ℕ) (n : ℕ) → 10 ≤ n → n < 2 ^ 64
+    → middle ≡ start ++ decimal (n / 10) → end ≡ middle ++ (48 + n % 10) ∷ []
+    → end ≡ start ++ decimal n
 last_digit start middle end n large wide em ee =
-    ee ∙ ap (λ t. t ++ (48 + n % 10) ∷ []) em ∙ append_assoc start (decimal (n / 10)) ((48 + n % 10) ∷ []) ∙ ap (λ t. start ++ t) (sym (decimal_step n large wide))
+    ee ∙ ap (λ t. t ++ (48 + n % 10) ∷ []) em
+    ∙ append_assoc start (decimal (n / 10)) ((48 + n % 10) ∷ [])
+    ∙ ap (λ t. start ++ t) (sym (decimal_step n large wide))
 
-pub only_digit : (start end : List ℕ) (n : ℕ) → n < 10 → end ≡ start ++ (48 + n) ∷ [] → end ≡ start ++ decimal n
+pub only_digit : (start end : List ℕ) (n : ℕ) → n < 10 → end ≡ start ++ (48 + n) ∷ []
+    → end ≡ start ++ decimal n
 only_digit start end n small e = e ∙ ap (λ t. start ++ t) (sym (decimal_digit n small))
 
 -- three pieces
-pub three_pieces : (start a b c first second third : List ℕ) → first ≡ start ++ a → second ≡ first ++ b → third ≡ second ++ c → third ≡ start ++ (a ++ (b ++ c))
+pub three_pieces : (start a b c first second third : List ℕ) → first ≡ start ++ a
+    → second ≡ first ++ b → third ≡ second ++ c → third ≡ start ++ (a ++ (b ++ c))
 three_pieces start a b c first second third ea eb ec =
-    ec ∙ ap (λ t. t ++ c) (eb ∙ ap (λ t. t ++ b) ea) ∙ append_assoc (start ++ a) b c ∙ append_assoc start a (b ++ c)
+    ec ∙ ap (λ t. t ++ c) (eb ∙ ap (λ t. t ++ b) ea) ∙ append_assoc (start ++ a) b c
+    ∙ append_assoc start a (b ++ c)
 
 pub on_ok : {T E : Type 0} (r : Result T E) (P Q : Type 0) → (P → Q) → OnOk r P → OnOk r Q
 on_ok (Ok x) P Q f p = f p

@@ -1,5 +1,7 @@
 -- The places of a rest.
-use Rattle.std.proofs.Common.{◌≡◌, ℕ, zero, suc, ◌+◌, ◌-◌, ◌*◌, ◌/◌, ◌%◌, ◌^◌, ◌<◌, ◌≤◌, false, ◌==◌, List, [], ◌∷◌, ◌++◌, refl, sym, ap, ◌∙◌, arith, append_assoc, append-nil}
+use Rattle.std.proofs.Common.{◌≡◌, ℕ, zero, suc, ◌+◌, ◌-◌, ◌*◌, ◌/◌, ◌%◌, ◌^◌, ◌<◌, ◌≤◌, false}
+use Rattle.std.proofs.Common.{◌==◌, List, [], ◌∷◌, ◌++◌, refl, sym, ap, ◌∙◌, arith, append_assoc}
+use Rattle.std.proofs.Common.{append-nil}
 use Rattle.std.proofs.lemmas.Nat.{div_below}
 use Rattle.std.proofs.lemmas.Bool.Decides.{nat_tests}
 use Rattle.std.proofs.Math.Nat.{pow-succ'}
@@ -14,7 +16,8 @@ unfolding places_of
 places_suc n r some = rw (some_test r some) refl
 
 -- the next place
-pub places_next : (k r : ℕ) → 0 < k → 0 < r → places_of k r ≡ (48 + r / 10 ^ (k - 1)) ∷ places_of (k - 1) (r % 10 ^ (k - 1))
+pub places_next : (k r : ℕ) → 0 < k → 0 < r
+    → places_of k r ≡ (48 + r / 10 ^ (k - 1)) ∷ places_of (k - 1) (r % 10 ^ (k - 1))
 places_next k r more some =
     let e : k ≡ suc (k - 1) = omega arith in
     ap (λ n. places_of n r) e ∙ places_suc (k - 1) r some
@@ -35,7 +38,8 @@ next_digit k r more small =
     let q : 10 ^ k ≡ 10 * 10 ^ (k - 1) = ap (λ j. 10 ^ j) e ∙ pow-succ' 10 (k - 1) in
     div_below r (10 ^ (k - 1)) 10 (pow_pos (k - 1)) (omega arith)
 
-pub with_next : (out new : List ℕ) (k r u : ℕ) → 0 < k → 0 < r → u ≡ 10 ^ (k - 1) → new ≡ out ++ (48 + r / u) ∷ [] → new ++ places_of (k - 1) (r % u) ≡ out ++ places_of k r
+pub with_next : (out new : List ℕ) (k r u : ℕ) → 0 < k → 0 < r → u ≡ 10 ^ (k - 1)
+    → new ≡ out ++ (48 + r / u) ∷ [] → new ++ places_of (k - 1) (r % u) ≡ out ++ places_of k r
 with_next out new k r u more some eu en =
     ap (λ t. t ++ places_of (k - 1) (r % u)) en
     ∙ append_assoc out ((48 + r / u) ∷ []) (places_of (k - 1) (r % u))

@@ -1,5 +1,6 @@
 -- Cells of boxes whose corners do not fall.
-use Rattle.std.proofs.Common.{◌≡◌, ◌≤◌, ◌<◌, ℕ, zero, suc, ◌^◌, ℤ, pos, negsuc, ◌+ℤ◌, ◌≤ℤ◌, Bool, ◌&&◌, true, false, All, [], ◌∷◌, refl, arith}
+use Rattle.std.proofs.Common.{◌≡◌, ◌≤◌, ◌<◌, ℕ, zero, suc, ◌^◌, ℤ, pos, negsuc, ◌+ℤ◌, ◌≤ℤ◌, Bool}
+use Rattle.std.proofs.Common.{◌&&◌, true, false, All, [], ◌∷◌, refl, arith}
 use Rattle.std.proofs.lemmas.Int.{to_z-of_z, ints}
 use Rattle.std.proofs.lemmas.Grind.{common_steps}
 use mir.Val.{SFits, of_z, to_z}
@@ -37,7 +38,8 @@ along_is half (negsuc m) fits =
         by (pos n) low = refl
         by (negsuc n) low = absurd (omega (arith, ints))
 
-along_rises : (half : ℕ) (a b : ℤ) → is_within half a ≡ true → is_within half b ≡ true → a ≤ℤ b → along half a ≤ along half b
+along_rises : (half : ℕ) (a b : ℤ) → is_within half a ≡ true → is_within half b ≡ true → a ≤ℤ b
+    → along half a ≤ along half b
 along_rises half a b fits fits' less =
     let at = along_is half a fits in
     let at' = along_is half b fits' in
@@ -47,20 +49,25 @@ along_rises half a b fits fits' less =
 abbrev pub Rises : Type 0
 Rises = (u v span bits : ℕ) → u ≤ v → normal_of u span bits ≤ normal_of v span bits
 
-pub longitude_rises : (bits : ℕ) (p q : Point) → Rises → is_in_world p ≡ true → is_in_world q ≡ true → p.x ≤ℤ q.x → longitude_cell bits p.x ≤ longitude_cell bits q.x
+pub longitude_rises : (bits : ℕ) (p q : Point) → Rises → is_in_world p ≡ true → is_in_world q ≡ true
+    → p.x ≤ℤ q.x → longitude_cell bits p.x ≤ longitude_cell bits q.x
 longitude_rises bits p q rises fits fits' less =
-    rises (along 1800000000 p.x) (along 1800000000 q.x) 3600000000 bits (along_rises 1800000000 p.x q.x (both_so _ _ fits).0 (both_so _ _ fits').0 less)
+    rises (along 1800000000 p.x) (along 1800000000 q.x) 3600000000 bits
+    (along_rises 1800000000 p.x q.x (both_so _ _ fits).0 (both_so _ _ fits').0 less)
 
-pub latitude_rises : (bits : ℕ) (p q : Point) → Rises → is_in_world p ≡ true → is_in_world q ≡ true → p.y ≤ℤ q.y → latitude_cell bits p.y ≤ latitude_cell bits q.y
+pub latitude_rises : (bits : ℕ) (p q : Point) → Rises → is_in_world p ≡ true → is_in_world q ≡ true
+    → p.y ≤ℤ q.y → latitude_cell bits p.y ≤ latitude_cell bits q.y
 latitude_rises bits p q rises fits fits' less =
-    rises (along 900000000 p.y) (along 900000000 q.y) 1800000000 bits (along_rises 900000000 p.y q.y (both_so _ _ fits).1 (both_so _ _ fits').1 less)
+    rises (along 900000000 p.y) (along 900000000 q.y) 1800000000 bits
+    (along_rises 900000000 p.y q.y (both_so _ _ fits).1 (both_so _ _ fits').1 less)
 
 pub two_at_most : (a b a' b' : ℕ) → a ≤ a' → b ≤ b' → IsAtMost (a ∷ b ∷ []) (a' ∷ b' ∷ [])
 two_at_most a b a' b' first second zero = first
 two_at_most a b a' b' first second (suc zero) = second
 two_at_most a b a' b' first second (suc (suc d)) = omega arith
 
-pub three_at_most : (a b c a' b' c' : ℕ) → a ≤ a' → b ≤ b' → c ≤ c' → IsAtMost (a ∷ b ∷ c ∷ []) (a' ∷ b' ∷ c' ∷ [])
+pub three_at_most : (a b c a' b' c' : ℕ) → a ≤ a' → b ≤ b' → c ≤ c'
+    → IsAtMost (a ∷ b ∷ c ∷ []) (a' ∷ b' ∷ c' ∷ [])
 three_at_most a b c a' b' c' first second third zero = first
 three_at_most a b c a' b' c' first second third (suc zero) = second
 three_at_most a b c a' b' c' first second third (suc (suc zero)) = third

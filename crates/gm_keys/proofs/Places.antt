@@ -1,5 +1,7 @@
 -- Values and boxes of features that fit.
-use Rattle.std.proofs.Common.{◌≡◌, ℕ, zero, suc, ◌≤ℤ◌, ℤ, pos, negsuc, neg_ℤ, ◌≤◌, ◌<◌, Bool, not, ◌&&◌, if◌then◌else◌, true, false, List, [], ◌∷◌, get_or, Option, Some, None, is_none, refl, sym, ap, ◌∙◌, arith}
+use Rattle.std.proofs.Common.{◌≡◌, ℕ, zero, suc, ◌≤ℤ◌, ℤ, pos, negsuc, neg_ℤ, ◌≤◌, ◌<◌, Bool, not}
+use Rattle.std.proofs.Common.{◌&&◌, if◌then◌else◌, true, false, List, [], ◌∷◌, get_or, Option, Some}
+use Rattle.std.proofs.Common.{None, is_none, refl, sym, ap, ◌∙◌, arith}
 use Rattle.std.proofs.lemmas.Int.{ints}
 use Rattle.std.proofs.lemmas.Grind.{common_steps}
 use Rattle.std.specs.List.{list_all}
@@ -20,7 +22,8 @@ use Rattle.gm_keys.specs.Cell.{IsBoxInWorld}
 use Rattle.gm_keys.proofs.Cells.{both_so}
 
 -- each value of a feature that fits is sound
-pub sound_at : (kinds : List Kind) (values : List Value) (n : ℕ) → values_fit kinds values ≡ true → is_sound (get_or values n value.Null) ≡ true
+pub sound_at : (kinds : List Kind) (values : List Value) (n : ℕ) → values_fit kinds values ≡ true
+    → is_sound (get_or values n value.Null) ≡ true
 sound_at kinds [] n fit = refl
 sound_at [] (v ∷ values) n fit = cc
 sound_at (k ∷ kinds) (v ∷ values) zero fit = (both_so _ _ (both_so _ _ fit).0).1
@@ -31,22 +34,31 @@ none_is None is = refl
 none_is (Some x) is = cc
 
 -- a geometry among them is kept
-pub kept_at : (kinds : List Kind) (values : List Value) (n : ℕ) (v : Value) (g : Geometry) → values_fit kinds values ≡ true → v ≡ value.Geo g → v ≡ get_or values n value.Null
+pub kept_at : (kinds : List Kind) (values : List Value) (n : ℕ) (v : Value) (g : Geometry)
+    → values_fit kinds values ≡ true → v ≡ value.Geo g → v ≡ get_or values n value.Null
     → fault_of g ≡ None
-kept_at kinds values n v g fit is at = none_is (fault_of g) (ap is_sound (sym is ∙ at) ∙ sound_at kinds values n fit)
+kept_at kinds values n v g fit is at =
+    none_is (fault_of g) (ap is_sound (sym is ∙ at) ∙ sound_at kinds values n fit)
 
 -- ---- boxes
 from_within : (n : ℕ) (z : ℤ) → is_within n z ≡ true → (neg_ℤ (pos n) ≤ℤ z) × (z ≤ℤ pos n)
-from_within n (pos m) is = let small : m ≤ n = grind (arith, common_steps) in (omega (arith, ints), omega (arith, ints))
-from_within n (negsuc m) is = let small : m < n = grind (arith, common_steps) in (omega (arith, ints), omega (arith, ints))
+from_within n (pos m) is = let small : m ≤ n = grind (arith, common_steps) in
+    (omega (arith, ints), omega (arith, ints))
+from_within n (negsuc m) is = let small : m < n = grind (arith, common_steps) in
+    (omega (arith, ints), omega (arith, ints))
 
 to_within : (n : ℕ) (z : ℤ) → neg_ℤ (pos n) ≤ℤ z → z ≤ℤ pos n → is_within n z ≡ true
-to_within n (pos m) low high = let small : m ≤ n = omega (arith, ints) in grind (arith, common_steps)
-to_within n (negsuc m) low high = let small : m < n = omega (arith, ints) in grind (arith, common_steps)
+to_within n (pos m) low high = let small : m ≤ n = omega (arith, ints) in
+    grind (arith, common_steps)
+to_within n (negsuc m) low high = let small : m < n = omega (arith, ints) in
+    grind (arith, common_steps)
 
 -- the box of the world
 abbrev world : Box2
-world = record { low = record { x = neg_ℤ (pos 1800000000); y = neg_ℤ (pos 900000000) }; high = record { x = pos 1800000000; y = pos 900000000 } }
+world = record {
+  low = record { x = neg_ℤ (pos 1800000000); y = neg_ℤ (pos 900000000) };
+  high = record { x = pos 1800000000; y = pos 900000000 };
+}
 
 in_world_box : (p : Point) → is_in_world p ≡ true → IsInBox world p
 in_world_box p within =
@@ -56,15 +68,19 @@ in_world_box p within =
 
 all_in_world : (points : List Point) → list_all is_in_world points ≡ true → HoldsAll world points
 all_in_world [] all = tt
-all_in_world (p ∷ points) all = (in_world_box p (both_so _ _ all).0, all_in_world points (both_so _ _ all).1)
+all_in_world (p ∷ points) all =
+    (in_world_box p (both_so _ _ all).0, all_in_world points (both_so _ _ all).1)
 
 both_true : (a b : Bool) → a ≡ true → b ≡ true → (a && b) ≡ true
 both_true a b is is' = ap (λ t. t && b) is ∙ is'
 
-corner : (p : Point) → neg_ℤ (pos 1800000000) ≤ℤ p.x → p.x ≤ℤ pos 1800000000 → neg_ℤ (pos 900000000) ≤ℤ p.y → p.y ≤ℤ pos 900000000 → is_in_world p ≡ true
-corner p left right below above = both_true _ _ (to_within 1800000000 p.x left right) (to_within 900000000 p.y below above)
+corner : (p : Point) → neg_ℤ (pos 1800000000) ≤ℤ p.x → p.x ≤ℤ pos 1800000000
+    → neg_ℤ (pos 900000000) ≤ℤ p.y → p.y ≤ℤ pos 900000000 → is_in_world p ≡ true
+corner p left right below above =
+    both_true _ _ (to_within 1800000000 p.x left right) (to_within 900000000 p.y below above)
 
-pub extent_in_world : (points : List Point) (box : Box2) → list_all is_in_world points ≡ true → extent_of points ≡ Some box → IsLeastBox box points → IsBoxInWorld box
+pub extent_in_world : (points : List Point) (box : Box2) → list_all is_in_world points ≡ true
+    → extent_of points ≡ Some box → IsLeastBox box points → IsBoxInWorld box
 extent_in_world [] box all is least = cc
 extent_in_world (p ∷ points) box all is least =
     let inside = least.least world (all_in_world (p ∷ points) all) in
@@ -72,14 +88,17 @@ extent_in_world (p ∷ points) box all is least =
     let wide : box.low.x ≤ℤ box.high.x = omega (arith, ints, here.left, here.right) in
     let tall : box.low.y ≤ℤ box.high.y = omega (arith, ints, here.below, here.above) in
     record {
-      low = corner box.low inside.left (omega (arith, ints, wide, inside.right)) inside.below (omega (arith, ints, tall, inside.above));
-      high = corner box.high (omega (arith, ints, wide, inside.left)) inside.right (omega (arith, ints, tall, inside.below)) inside.above;
+      low = corner box.low inside.left (omega (arith, ints, wide, inside.right)) inside.below
+          (omega (arith, ints, tall, inside.above));
+      high = corner box.high (omega (arith, ints, wide, inside.left)) inside.right
+          (omega (arith, ints, tall, inside.below)) inside.above;
       wide = wide;
       tall = tall;
     }
 
 -- a kept geometry lies in the world
-in_world_if : (many : Bool) (all : Bool) (rest : Option GeomFault) → (if many then Some Many else (if not all then Some Range else rest)) ≡ None → all ≡ true
+in_world_if : (many : Bool) (all : Bool) (rest : Option GeomFault)
+    → (if many then Some Many else (if not all then Some Range else rest)) ≡ None → all ≡ true
 in_world_if true all rest none = cc
 in_world_if false true rest none = refl
 in_world_if false false rest none = cc

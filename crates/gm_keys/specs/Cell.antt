@@ -49,7 +49,8 @@ unfoldable pub xz2_code : ℕ → Box2 → ℕ
 xz2_code bits box = code_of_box 2 bits (cells_of bits box.low) (cells_of bits box.high)
 
 unfoldable pub xz3_code : Period → ℕ → Box2 → ℕ → ℕ
-xz3_code period bits box offset = code_of_box 3 bits (cells_at period bits box.low offset) (cells_at period bits box.high offset)
+xz3_code period bits box offset =
+    code_of_box 3 bits (cells_at period bits box.low offset) (cells_at period bits box.high offset)
 
 -- the corners of a box are in the world, and do not fall
 pub record IsBoxInWorld (box : Box2) : Type 0 where

@@ -1,11 +1,13 @@
 -- The keys of a feature: one in each index of its type that has what it needs.
-use Rattle.std.specs.Prelude.{ℕ, ◌%◌, List, [], ◌∷◌, ◌++◌, filter_map, Option, Some, None, option_map, option_and_then, option_to_list, if◌then◌else◌}
+use Rattle.std.specs.Prelude.{ℕ, ◌%◌, List, [], ◌∷◌, ◌++◌, filter_map, Option, Some, None}
+use Rattle.std.specs.Prelude.{option_map, option_and_then, option_to_list, if◌then◌else◌}
 use Rattle.byteorder.specs.Endian.{big_bytes}
 use Rattle.gm_base.specs.Hash.{fnv1a_of}
 use Rattle.gm_types.specs.declared.index.IndexKind.{IndexKind}
 use Rattle.gm_types.specs.declared.index.IndexKind.TheVariants.{Id, Z2, Z3, Xz2, Xz3, Attr}
 use Rattle.gm_types.specs.Index.{has_index, enabled_indexes}
-use Rattle.gm_types.specs.Specification.{Specification, period_of, shards_of, z2_bits_of, z3_bits_of, precision_of}
+use Rattle.gm_types.specs.Specification.{Specification, period_of, shards_of, z2_bits_of}
+use Rattle.gm_types.specs.Specification.{z3_bits_of, precision_of}
 use Rattle.gm_feature.specs.declared.feature.Feature.{Feature}
 use Rattle.gm_feature.specs.declared.value.Value.{Value}
 use Rattle.gm_feature.specs.declared.value.Value.TheVariants as value
@@ -28,7 +30,8 @@ abbrev pub attribute_number : IndexKind → List ℕ
 attribute_number (Attr number) = big_bytes 2 number
 attribute_number _ = []
 
--- the prefix of all keys of an index: the type's number, the index number, and the attribute's number
+-- the prefix of all keys of an index: the type's number, the index number, and the attribute's
+-- number
 unfoldable pub prefix_of : Specification → IndexKind → List ℕ
 prefix_of t kind = big_bytes 2 t.number ++ (index_number kind ∷ attribute_number kind)
 
@@ -66,16 +69,24 @@ value_key t number id v = option_map (λ form. (prefix_of t (Attr number) ++ for
 unfoldable pub front_of : Specification → IndexKind → Feature → Option (List ℕ)
 front_of t Id feature = Some (prefix_of t Id)
 front_of t Z2 feature =
-    option_map (λ point. code_front (prefix_of t Z2) (shard_of t feature.id) (z2_code (z2_bits_of t) point)) (point_in t feature)
+    option_map (λ point. code_front (prefix_of t Z2) (shard_of t feature.id)
+    (z2_code (z2_bits_of t) point)) (point_in t feature)
 front_of t Z3 feature =
-    option_and_then (λ point. option_map (λ bin. bin_code_front (prefix_of t Z3) (shard_of t feature.id) bin.number
-    (z3_code (period_of t) (z3_bits_of t) point bin.offset)) (bin_in t feature)) (point_in t feature)
+    option_and_then
+    (λ point. option_map
+    (λ bin. bin_code_front (prefix_of t Z3) (shard_of t feature.id) bin.number
+    (z3_code (period_of t) (z3_bits_of t) point bin.offset)) (bin_in t feature))
+    (point_in t feature)
 front_of t Xz2 feature =
-    option_map (λ box. code_front (prefix_of t Xz2) (shard_of t feature.id) (xz2_code (precision_of t) box)) (box_in t feature)
+    option_map (λ box. code_front (prefix_of t Xz2) (shard_of t feature.id)
+    (xz2_code (precision_of t) box)) (box_in t feature)
 front_of t Xz3 feature =
-    option_and_then (λ box. option_map (λ bin. bin_code_front (prefix_of t Xz3) (shard_of t feature.id) bin.number
+    option_and_then
+    (λ box. option_map
+    (λ bin. bin_code_front (prefix_of t Xz3) (shard_of t feature.id) bin.number
     (xz3_code (period_of t) (precision_of t) box bin.offset)) (bin_in t feature)) (box_in t feature)
-front_of t (Attr number) feature = option_map (λ form. prefix_of t (Attr number) ++ form) (form_of (value_at feature number))
+front_of t (Attr number) feature =
+    option_map (λ form. prefix_of t (Attr number) ++ form) (form_of (value_at feature number))
 
 -- the key in an index, or none where a value that the index needs is null
 abbrev pub key_of : Specification → IndexKind → Feature → Option (List ℕ)

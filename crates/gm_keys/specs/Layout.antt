@@ -1,5 +1,6 @@
 -- How the keys of an index are laid out.
-use Rattle.std.specs.Prelude.{◌≡◌, ℕ, ℤ, Bool, true, List, [], ◌++◌, ◌≤◌, length, take, drop, FitsSigned, Option, Some}
+use Rattle.std.specs.Prelude.{◌≡◌, ℕ, ℤ, Bool, true, List, [], ◌++◌, ◌≤◌, length, take, drop}
+use Rattle.std.specs.Prelude.{FitsSigned, Option, Some}
 use Rattle.std.specs.Int.{w32, w64}
 use Rattle.gm_base.specs.Identifier.{is_identifier}
 use Rattle.gm_calendar.specs.Instant.{IsInstant}
@@ -8,7 +9,8 @@ use Rattle.gm_types.specs.declared.index.IndexKind.TheVariants.{Id, Z2, Z3, Xz2,
 use Rattle.gm_types.specs.declared.kind.Kind.{Kind}
 use Rattle.gm_types.specs.declared.kind.Kind.TheVariants as kind
 use Rattle.gm_types.specs.Specification.{Specification, kind_at}
-use Rattle.gm_lexi.specs.Lexicode.{int_bytes, long_bytes, date_bytes, bool_bytes, text_bytes, IsLexicalText}
+use Rattle.gm_lexi.specs.Lexicode.{int_bytes, long_bytes, date_bytes, bool_bytes, text_bytes}
+use Rattle.gm_lexi.specs.Lexicode.{IsLexicalText}
 use Rattle.gm_keys.specs.Key.{prefix_of}
 
 -- the lexicoded form of some value of a kind
@@ -24,7 +26,8 @@ IsForm _ form = ⊥
 abbrev pub IsFormAt : Option Kind → List ℕ → ℕ → Type 0
 IsFormAt kind bytes size = (size ≤ length bytes) × IsForm kind (take size bytes)
 
--- what stands between the prefix and the identifier: nothing, a shard and a code, a shard, a bin and a code, or a form
+-- what stands between the prefix and the identifier: nothing, a shard and a code, a shard, a bin
+-- and a code, or a form
 abbrev pub IsMiddle : Specification → IndexKind → List ℕ → Type 0
 IsMiddle t Id middle = middle ≡ []
 IsMiddle t Z2 middle = length middle ≡ 9

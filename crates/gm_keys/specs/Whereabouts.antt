@@ -1,5 +1,6 @@
 -- Where a feature stands in space and time, and which values an index needs for it.
-use Rattle.std.specs.Prelude.{ℕ, Bool, true, false, ℤ, List, [], ◌∷◌, ◌++◌, Option, Some, None, option_and_then, option_to_list}
+use Rattle.std.specs.Prelude.{ℕ, Bool, true, false, ℤ, List, [], ◌∷◌, ◌++◌, Option, Some, None}
+use Rattle.std.specs.Prelude.{option_and_then, option_to_list}
 use Rattle.std.specs.List.{list_any}
 use Rattle.gm_calendar.specs.Bin.{bin_at}
 use Rattle.gm_calendar.specs.declared.bin.Bin.{Bin}
@@ -11,7 +12,8 @@ use Rattle.gm_geom.specs.Extent.{extent_of}
 use Rattle.gm_geom.specs.Geometry.{points_of}
 use Rattle.gm_types.specs.declared.index.IndexKind.{IndexKind}
 use Rattle.gm_types.specs.declared.index.IndexKind.TheVariants.{Id, Z2, Z3, Xz2, Xz3, Attr}
-use Rattle.gm_types.specs.Specification.{Specification, default_geometry_of, default_date_of, period_of}
+use Rattle.gm_types.specs.Specification.{Specification, default_geometry_of, default_date_of}
+use Rattle.gm_types.specs.Specification.{period_of}
 use Rattle.gm_feature.specs.declared.feature.Feature.{Feature}
 use Rattle.gm_feature.specs.declared.value.Value.{Value}
 use Rattle.gm_feature.specs.declared.value.Value.TheVariants as value
@@ -27,10 +29,12 @@ instant_of _ = None
 
 -- the default geometry and the default date of a feature, where it has them
 abbrev pub geometry_in : Specification → Feature → Option Geometry
-geometry_in t feature = option_and_then (λ number. geometry_of (value_at feature number)) (default_geometry_of t)
+geometry_in t feature =
+    option_and_then (λ number. geometry_of (value_at feature number)) (default_geometry_of t)
 
 abbrev pub instant_in : Specification → Feature → Option ℤ
-instant_in t feature = option_and_then (λ number. instant_of (value_at feature number)) (default_date_of t)
+instant_in t feature =
+    option_and_then (λ number. instant_of (value_at feature number)) (default_date_of t)
 
 abbrev pub point_of : Geometry → Option Point
 point_of (geo.Point point) = Some point
@@ -66,4 +70,5 @@ is_null _ = false
 
 -- a value that the index needs is null
 abbrev pub lacks_value : Specification → IndexKind → Feature → Bool
-lacks_value t kind feature = list_any (λ number. is_null (value_at feature number)) (needs_of t kind)
+lacks_value t kind feature =
+    list_any (λ number. is_null (value_at feature number)) (needs_of t kind)

@@ -28,7 +28,8 @@ unfolding long_bytes
 least_long = refl
 
 -- 1969-12-31T23:59:59.999Z
-date_before_1970 : date_bytes (negsuc 0) ≡ 0x7F ∷ 0xFF ∷ 0xFF ∷ 0xFF ∷ 0xFF ∷ 0xFF ∷ 0xFF ∷ 0xFF ∷ []
+date_before_1970 : date_bytes (negsuc 0)
+    ≡ 0x7F ∷ 0xFF ∷ 0xFF ∷ 0xFF ∷ 0xFF ∷ 0xFF ∷ 0xFF ∷ 0xFF ∷ []
 unfolding long_bytes
 date_before_1970 = refl
 

@@ -1,5 +1,6 @@
 -- The end of the strings that begin with given bytes.
-use Rattle.std.specs.Prelude.{ℕ, ◌+◌, Bool, true, not, ◌&&◌, ◌==◌, List, [], ◌∷◌, Option, Some, None, if◌then◌else◌}
+use Rattle.std.specs.Prelude.{ℕ, ◌+◌, Bool, true, not, ◌&&◌, ◌==◌, List, [], ◌∷◌, Option, Some}
+use Rattle.std.specs.Prelude.{None, if◌then◌else◌}
 use Rattle.std.specs.Ordering.{nat_cmp, is_le}
 use Rattle.std.specs.Cmp.Lexicographic.{slice_cmp}
 
@@ -8,7 +9,8 @@ abbrev pub raised : ℕ → Option (List ℕ) → Option (List ℕ)
 raised byte None = if byte == 255 then None else Some ((byte + 1) ∷ [])
 raised byte (Some rest) = Some (byte ∷ rest)
 
--- the bytes without those of 0xFF at their end, the last byte left being one more; none where each byte is 0xFF
+-- the bytes without those of 0xFF at their end, the last byte left being one more; none where each
+-- byte is 0xFF
 abbrev pub after_of : List ℕ → Option (List ℕ)
 after_of [] = None
 after_of (byte ∷ bytes) = raised byte (after_of bytes)

@@ -1,5 +1,6 @@
 -- Values as bytes that stand in the order of the values, and that show where they end.
-use Rattle.std.specs.Prelude.{ℕ, ◌<◌, ◌^◌, Bool, ℤ, List, [], ◌∷◌, ◌++◌, All, IsUtf8, bit_xor, if◌then◌else◌}
+use Rattle.std.specs.Prelude.{ℕ, ◌<◌, ◌^◌, Bool, ℤ, List, [], ◌∷◌, ◌++◌, All, IsUtf8, bit_xor}
+use Rattle.std.specs.Prelude.{if◌then◌else◌}
 use Rattle.std.specs.Int.{cast_unsigned, w32, w64}
 use Rattle.byteorder.specs.Endian.{big_bytes}
 

@@ -11,7 +11,8 @@ Files = files.FinMap (slice_cmp nat_cmp) (List ℕ)
 
 -- the bytes of a name have gone to another
 abbrev pub Renamed : List ℕ → List ℕ → Files → Files → Type 0
-Renamed from to old new = ForSome (files.get old from) (λ bytes. new ≡ files.insert (files.remove old from) to bytes)
+Renamed from to old new =
+    ForSome (files.get old from) (λ bytes. new ≡ files.insert (files.remove old from) to bytes)
 
 -- a name has gone
 abbrev pub Removed : List ℕ → Files → Files → Type 0

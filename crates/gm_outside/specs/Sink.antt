@@ -9,8 +9,10 @@ abbrev pub IsWithin : Option (List ℕ) → ℕ → Type 0
 IsWithin written flushed = ForSome written (λ bytes. flushed ≤ length bytes)
 
 -- where it is told
-pub within_some : (bytes : List ℕ) (flushed : ℕ) → flushed ≤ length bytes → IsWithin (Some bytes) flushed
-within_some bytes flushed inside = λ all is. subst (λ known. flushed ≤ length known) (same_Some bytes all is) inside
+pub within_some : (bytes : List ℕ) (flushed : ℕ) → flushed ≤ length bytes
+    → IsWithin (Some bytes) flushed
+within_some bytes flushed inside =
+    λ all is. subst (λ known. flushed ≤ length known) (same_Some bytes all is) inside
 
 -- and where it is not
 pub within_none : (flushed : ℕ) → IsWithin None flushed

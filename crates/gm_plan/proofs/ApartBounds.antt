@@ -1,6 +1,8 @@
 -- What lists of tests have, the list of a bound has.
 use Rattle.std.proofs.Common.{◌≡◌, List, [], ◌++◌}
-use Rattle.gm_filter.specs.Tree.{Tree, Trees, include, exclude, negated, all, any, compare, between, like, one_of, is_null, ids, bbox, intersects, disjoint, within, during, before, after, tequals, no_trees, tree_and}
+use Rattle.gm_filter.specs.Tree.{Tree, Trees, include, exclude, negated, all, any, compare, between}
+use Rattle.gm_filter.specs.Tree.{like, one_of, is_null, ids, bbox, intersects, disjoint, within}
+use Rattle.gm_filter.specs.Tree.{during, before, after, tequals, no_trees, tree_and}
 use Rattle.gm_bounds.specs.declared.bound.Bound.{Bound}
 use Rattle.gm_bounds.specs.declared.bound.Bound.TheVariants.{World, Listed}
 use Rattle.gm_bounds.specs.Bound.{Rules, bound_of, all_of, any_of}
@@ -40,7 +42,8 @@ module _ {X : Type 0} (r : Rules X) (P Q : List X → Type 0) (keeps : Keeps r P
     of_tree exclude = keeps.none
     of_tree (negated t) = tt
     of_tree (all ts) = of_all World tt ts
-    of_tree (any ts) = of_counted (any_of r (Listed []) ts) (of_any (Listed []) (keeps.weaker [] keeps.none) ts)
+    of_tree (any ts) =
+        of_counted (any_of r (Listed []) ts) (of_any (Listed []) (keeps.weaker [] keeps.none) ts)
     of_tree (compare a op l) = keeps.test (compare a op l)
     of_tree (between a low high) = keeps.test (between a low high)
     of_tree (like a pattern) = keeps.test (like a pattern)
@@ -58,8 +61,10 @@ module _ {X : Type 0} (r : Rules X) (P Q : List X → Type 0) (keeps : Keeps r P
 
     of_all : (found : Bound X) → IsOf P found → (ts : Trees) → IsOf P (all_of r found ts)
     of_all found p no_trees = p
-    of_all found p (tree_and t ts) = of_all (both r.met found (bound_of r t)) (of_both found (bound_of r t) p (of_tree t)) ts
+    of_all found p (tree_and t ts) =
+        of_all (both r.met found (bound_of r t)) (of_both found (bound_of r t) p (of_tree t)) ts
 
     of_any : (found : Bound X) → IsOf Q found → (ts : Trees) → IsOf Q (any_of r found ts)
     of_any found p no_trees = p
-    of_any found p (tree_and t ts) = of_any (either found (bound_of r t)) (of_either found (bound_of r t) p (of_tree t)) ts
+    of_any found p (tree_and t ts) =
+        of_any (either found (bound_of r t)) (of_either found (bound_of r t) p (of_tree t)) ts

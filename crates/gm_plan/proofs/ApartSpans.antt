@@ -1,5 +1,6 @@
 -- Spans of which each shares no key with a later one have no key in common.
-use Rattle.std.proofs.Common.{◌≡◌, ℕ, zero, suc, ◌+◌, ◌≤◌, Bool, true, false, not, ◌&&◌, List, [], ◌∷◌, ◌++◌, refl, sym, ap, ◌∙◌, true≢false, arith, subst}
+use Rattle.std.proofs.Common.{◌≡◌, ℕ, zero, suc, ◌+◌, ◌≤◌, Bool, true, false, not, ◌&&◌, List, []}
+use Rattle.std.proofs.Common.{◌∷◌, ◌++◌, refl, sym, ap, ◌∙◌, true≢false, arith, subst}
 use Rattle.std.specs.Prelude.{if◌then◌else◌}
 use Rattle.std.specs.List.{AllByRecursion}
 use Rattle.std.proofs.lemmas.Cmp.{nat_list_cmp_total, tied_itself}
@@ -18,13 +19,16 @@ C a b = slice_cmp nat_cmp a b
 pub turned : (a b : List ℕ) (o : Ordering) → C a b ≡ o → C b a ≡ ordering_reverse o
 turned a b o h = nat_list_cmp_total.antisymm b a ∙ ap ordering_reverse h
 
-pub less_then_le : (a b c : List ℕ) (o : Ordering) → C a b ≡ Less → C b c ≡ o → is_le o ≡ true → C a c ≡ Less
+pub less_then_le : (a b c : List ℕ) (o : Ordering) → C a b ≡ Less → C b c ≡ o → is_le o ≡ true
+    → C a c ≡ Less
 less_then_le a b c Less h e le = nat_list_cmp_total.trans a b c h e
 less_then_le a b c Equal h e le =
-    nat_list_cmp_total.antisymm a c ∙ ap ordering_reverse (sym (nat_list_cmp_total.congr b c a e) ∙ turned a b Less h)
+    nat_list_cmp_total.antisymm a c
+    ∙ ap ordering_reverse (sym (nat_list_cmp_total.congr b c a e) ∙ turned a b Less h)
 less_then_le a b c Greater h e le = absurd (true≢false (sym le))
 
-le_trans_by : (a b c : List ℕ) (o : Ordering) → C a b ≡ o → is_le o ≡ true → is_le (C b c) ≡ true → is_le (C a c) ≡ true
+le_trans_by : (a b c : List ℕ) (o : Ordering) → C a b ≡ o → is_le o ≡ true → is_le (C b c) ≡ true
+    → is_le (C a c) ≡ true
 le_trans_by a b c Less e le h = ap is_le (less_then_le a b c (C b c) e refl h)
 le_trans_by a b c Equal e le h = ap is_le (nat_list_cmp_total.congr a b c e) ∙ h
 le_trans_by a b c Greater e le h = absurd (true≢false (sym le))
@@ -51,7 +55,9 @@ pub record Excludes (a b : Span) : Type 0 where
 pub rising : (a b : Span) → is_le (C a.1 b.0) ≡ true → Excludes a b
 rising a b h = record {
   never = λ key within. first_false (is_le (C b.0 key)) (is_le (C b.1 key))
-      (λ low. true≢false (sym (le_trans a.1 b.0 key h low) ∙ (both_true (is_le (C a.0 key)) (is_le (C a.1 key)) within).1));
+      (λ low. true≢false
+      (sym (le_trans a.1 b.0 key h low)
+      ∙ (both_true (is_le (C a.0 key)) (is_le (C a.1 key)) within).1));
 }
   where
     first_false : (p q : Bool) → (p ≡ true → ⊥) → (p && not q) ≡ false
@@ -59,12 +65,14 @@ rising a b h = record {
     first_false false q h = refl
 
 -- the low end of neither is within the other
-lows_by : (a b : Span) (o : Bool) → is_le (C a.0 b.0) ≡ o → is_within a.0 a.1 b.0 ≡ false → is_within b.0 b.1 a.0 ≡ false
+lows_by : (a b : Span) (o : Bool) → is_le (C a.0 b.0) ≡ o → is_within a.0 a.1 b.0 ≡ false
+    → is_within b.0 b.1 a.0 ≡ false
     → (key : List ℕ) → is_within a.0 a.1 key ≡ true → is_within b.0 b.1 key ≡ true → ⊥
 lows_by a b true o h g key within within' =
     let one = both_true (is_le (C a.0 key)) (is_le (C a.1 key)) within in
     let two = both_true (is_le (C b.0 key)) (is_le (C b.1 key)) within' in
-    behind (is_le (C a.0 b.0)) (is_le (C a.1 b.0)) o h (λ high. true≢false (sym (le_trans a.1 b.0 key high two.0) ∙ one.1))
+    behind (is_le (C a.0 b.0)) (is_le (C a.1 b.0)) o h
+    (λ high. true≢false (sym (le_trans a.1 b.0 key high two.0) ∙ one.1))
   where
     behind : (p q : Bool) → p ≡ true → (p && not q) ≡ false → (q ≡ true → ⊥) → ⊥
     behind p true e h k = k refl
@@ -73,7 +81,8 @@ lows_by a b true o h g key within within' =
 lows_by a b false o h g key within within' =
     let one = both_true (is_le (C a.0 key)) (is_le (C a.1 key)) within in
     let two = both_true (is_le (C b.0 key)) (is_le (C b.1 key)) within' in
-    behind (is_le (C b.0 a.0)) (is_le (C b.1 a.0)) (le_or_by a.0 b.0 (C a.0 b.0) refl o) g (λ high. true≢false (sym (le_trans b.1 a.0 key high one.0) ∙ two.1))
+    behind (is_le (C b.0 a.0)) (is_le (C b.1 a.0)) (le_or_by a.0 b.0 (C a.0 b.0) refl o) g
+    (λ high. true≢false (sym (le_trans b.1 a.0 key high one.0) ∙ two.1))
   where
     behind : (p q : Bool) → p ≡ true → (p && not q) ≡ false → (q ≡ true → ⊥) → ⊥
     behind p true e h k = k refl
@@ -84,9 +93,11 @@ not_true : (b : Bool) → (b ≡ true → ⊥) → b ≡ false
 not_true true h = absurd (h refl)
 not_true false h = refl
 
-pub lows : (a b : Span) → is_within a.0 a.1 b.0 ≡ false → is_within b.0 b.1 a.0 ≡ false → Excludes a b
+pub lows : (a b : Span) → is_within a.0 a.1 b.0 ≡ false → is_within b.0 b.1 a.0 ≡ false
+    → Excludes a b
 lows a b h g = record {
-  never = λ key within. not_true (is_within b.0 b.1 key) (λ within'. lows_by a b (is_le (C a.0 b.0)) refl h g key within within');
+  never = λ key within. not_true (is_within b.0 b.1 key)
+      (λ within'. lows_by a b (is_le (C a.0 b.0)) refl h g key within within');
 }
 
 -- ---- lists of spans
@@ -97,9 +108,12 @@ AreExclusive (x ∷ xs) = AllByRecursion (λ y. Excludes x y) xs × AreExclusive
 nothing_more : (n : ℕ) → n ≡ 0 → 0 + n ≡ 0
 nothing_more n h = omega arith
 
-none_after : (key : List ℕ) (x : Span) (xs : List Span) → AllByRecursion (λ y. Excludes x y) xs → is_within x.0 x.1 key ≡ true → times_inside key xs ≡ 0
+none_after : (key : List ℕ) (x : Span) (xs : List Span) → AllByRecursion (λ y. Excludes x y) xs
+    → is_within x.0 x.1 key ≡ true → times_inside key xs ≡ 0
 none_after key x [] h within = refl
-none_after key x (y ∷ ys) h within = ap (λ b. (if b then 1 else 0) + times_inside key ys) (h.0.never key within) ∙ nothing_more (times_inside key ys) (none_after key x ys h.1 within)
+none_after key x (y ∷ ys) h within =
+    ap (λ b. (if b then 1 else 0) + times_inside key ys) (h.0.never key within)
+    ∙ nothing_more (times_inside key ys) (none_after key x ys h.1 within)
 
 few_by : (b : Bool) (n : ℕ) → (b ≡ true → n ≡ 0) → n ≤ 1 → (if b then 1 else 0) + n ≤ 1
 few_by true n h g = let e = h refl in omega arith
@@ -107,12 +121,17 @@ few_by false n h g = omega arith
 
 pub exclusive_are_apart : (xs : List Span) → AreExclusive xs → AreApart xs
 exclusive_are_apart [] h key = omega arith
-exclusive_are_apart (x ∷ xs) h key = few_by (is_within x.0 x.1 key) (times_inside key xs) (none_after key x xs h.0) (exclusive_are_apart xs h.1 key)
+exclusive_are_apart (x ∷ xs) h key =
+    few_by (is_within x.0 x.1 key) (times_inside key xs) (none_after key x xs h.0)
+    (exclusive_are_apart xs h.1 key)
 
-pub all_append : {X : Type 0} (P : X → Type 0) (xs ys : List X) → AllByRecursion P xs → AllByRecursion P ys → AllByRecursion P (xs ++ ys)
+pub all_append : {X : Type 0} (P : X → Type 0) (xs ys : List X) → AllByRecursion P xs
+    → AllByRecursion P ys → AllByRecursion P (xs ++ ys)
 all_append P [] ys h g = g
 all_append P (x ∷ xs) ys h g = (h.0, all_append P xs ys h.1 g)
 
-pub exclusive_append : (xs ys : List Span) → AreExclusive xs → AreExclusive ys → AllByRecursion (λ x. AllByRecursion (λ y. Excludes x y) ys) xs → AreExclusive (xs ++ ys)
+pub exclusive_append : (xs ys : List Span) → AreExclusive xs → AreExclusive ys
+    → AllByRecursion (λ x. AllByRecursion (λ y. Excludes x y) ys) xs → AreExclusive (xs ++ ys)
 exclusive_append [] ys h g cross = g
-exclusive_append (x ∷ xs) ys h g cross = (all_append (λ y. Excludes x y) xs ys h.0 cross.0, exclusive_append xs ys h.1 g cross.1)
+exclusive_append (x ∷ xs) ys h g cross =
+    (all_append (λ y. Excludes x y) xs ys h.0 cross.0, exclusive_append xs ys h.1 g cross.1)

@@ -1,23 +1,29 @@
 -- A bound that is a list has at most eight members.
-use Rattle.std.proofs.Common.{◌≡◌, ℕ, ◌≤◌, Bool, true, false, List, [], ◌∷◌, length, refl, Option, Some, None, arith}
+use Rattle.std.proofs.Common.{◌≡◌, ℕ, ◌≤◌, Bool, true, false, List, [], ◌∷◌, length, refl, Option}
+use Rattle.std.proofs.Common.{Some, None, arith}
 use Rattle.std.specs.Prelude.{ℤ, pos, ◌+ℤ◌, ◌-ℤ◌, nat_le, nat_eq, if◌then◌else◌, option_to_list}
 use Rattle.std.proofs.lemmas.Bool.{leb-true}
 use Rattle.gm_geom.specs.declared.point.Box2.{Box2}
 use Rattle.gm_geom.specs.Extent.{extent_of}
 use Rattle.gm_geom.specs.Geometry.{points_of}
-use Rattle.gm_types.specs.Specification.{Specification, default_geometry_of, default_date_of, default_shape_of}
+use Rattle.gm_types.specs.Specification.{Specification, default_geometry_of, default_date_of}
+use Rattle.gm_types.specs.Specification.{default_shape_of}
 use Rattle.gm_types.specs.Index.{is_point_shape}
 use Rattle.gm_filter.specs.declared.filter.Op.{Op}
 use Rattle.gm_filter.specs.declared.filter.Op.TheVariants.{Eq, Ne, Lt, Le, Gt, Ge}
 use Rattle.gm_filter.specs.declared.filter.Literal.{Literal}
 use Rattle.gm_filter.specs.declared.filter.Literal.TheVariants as literal
-use Rattle.gm_filter.specs.Tree.{Tree, Trees, include, exclude, negated, all, any, compare, between, like, one_of, is_null, ids, bbox, intersects, disjoint, within, during, before, after, tequals, no_trees, tree_and}
+use Rattle.gm_filter.specs.Tree.{Tree, Trees, include, exclude, negated, all, any, compare, between}
+use Rattle.gm_filter.specs.Tree.{like, one_of, is_null, ids, bbox, intersects, disjoint, within}
+use Rattle.gm_filter.specs.Tree.{during, before, after, tequals, no_trees, tree_and}
 use Rattle.gm_bounds.specs.declared.bound.Bound.{Bound}
 use Rattle.gm_bounds.specs.declared.bound.Bound.TheVariants.{World, Listed}
 use Rattle.gm_bounds.specs.Bound.{Rules, bound_of, all_of, any_of, on}
-use Rattle.gm_bounds.specs.Lists.{kept, capped, hull_of, both, counted, single, listed, meeting, pairs}
+use Rattle.gm_bounds.specs.Lists.{kept, capped, hull_of, both, counted, single, listed, meeting}
+use Rattle.gm_bounds.specs.Lists.{pairs}
 use Rattle.gm_bounds.specs.Boxes.{boxes_of, boxes_at, box_rules, box_test, box_of, box_of_extent}
-use Rattle.gm_bounds.specs.Intervals.{intervals_of, intervals_at, interval_rules, interval_test, lasting, dated, compared, lying_between, instants_of}
+use Rattle.gm_bounds.specs.Intervals.{intervals_of, intervals_at, interval_rules, interval_test}
+use Rattle.gm_bounds.specs.Intervals.{lasting, dated, compared, lying_between, instants_of}
 use Rattle.gm_bounds.specs.ClosedBox as box
 use Rattle.gm_bounds.specs.Interval as interval
 use Rattle.gm_plan.specs.KeyRanges.{list_of}
@@ -31,7 +37,8 @@ pub record HasFew {X : Type 0} (r : Rules X) : Type 0 where
   pub met : (xs ys : List X) → length xs ≤ 8 → length ys ≤ 8 → length (r.met xs ys) ≤ 8
   pub counted : (xs : List X) → length (r.counted xs) ≤ 8
 
-few_both : {X : Type 0} (r : Rules X) → HasFew r → (a b : Bound X) → IsFew a → IsFew b → IsFew (both r.met a b)
+few_both : {X : Type 0} (r : Rules X) → HasFew r → (a b : Bound X) → IsFew a → IsFew b
+    → IsFew (both r.met a b)
 few_both r h World b p q = q
 few_both r h (Listed xs) World p q = p
 few_both r h (Listed xs) (Listed ys) p q = h.met xs ys p q
@@ -62,12 +69,16 @@ mutual
   few r h (after a at) = h.test (after a at)
   few r h (tequals a at) = h.test (tequals a at)
 
-  few_all : {X : Type 0} (r : Rules X) → HasFew r → (found : Bound X) → IsFew found → (ts : Trees) → IsFew (all_of r found ts)
+  few_all : {X : Type 0} (r : Rules X) → HasFew r → (found : Bound X) → IsFew found → (ts : Trees)
+      → IsFew (all_of r found ts)
   few_all r h found p no_trees = p
-  few_all r h found p (tree_and t ts) = few_all r h (both r.met found (bound_of r t)) (few_both r h found (bound_of r t) p (few r h t)) ts
+  few_all r h found p (tree_and t ts) =
+      few_all r h (both r.met found (bound_of r t))
+      (few_both r h found (bound_of r t) p (few r h t)) ts
 
 -- ---- the lists of tests, and of what is counted
-if_few : {X : Type 0} (xs : List X) (o : Option X) (b : Bool) → nat_le (length xs) 8 ≡ b → length (if b then xs else option_to_list o) ≤ 8
+if_few : {X : Type 0} (xs : List X) (o : Option X) (b : Bool) → nat_le (length xs) 8 ≡ b
+    → length (if b then xs else option_to_list o) ≤ 8
 if_few xs o true e = leb-true (length xs) 8 e
 if_few xs None false e = omega arith
 if_few xs (Some x) false e = omega arith
@@ -89,11 +100,13 @@ on_by false bound h = tt
 on_few : {X : Type 0} (a d : ℕ) (bound : Bound X) → IsFew bound → IsFew (on a d bound)
 on_few a d bound h = on_by (nat_eq a d) bound h
 
-meeting_by : {X : Type 0} (b : Bool) (joined : X → X → X) (xs zs : List X) → length xs ≤ 8 → length (if b then capped joined zs else xs) ≤ 8
+meeting_by : {X : Type 0} (b : Bool) (joined : X → X → X) (xs zs : List X) → length xs ≤ 8
+    → length (if b then capped joined zs else xs) ≤ 8
 meeting_by true joined xs zs h = capped_few joined zs
 meeting_by false joined xs zs h = h
 
-meeting_few : {X : Type 0} (b : Bool) (met : X → X → X) (is_void : X → Bool) (joined : X → X → X) (xs ys : List X) → length xs ≤ 8 → length (meeting b met is_void joined xs ys) ≤ 8
+meeting_few : {X : Type 0} (b : Bool) (met : X → X → X) (is_void : X → Bool) (joined : X → X → X)
+    (xs ys : List X) → length xs ≤ 8 → length (meeting b met is_void joined xs ys) ≤ 8
 meeting_few b met is_void joined xs ys h = meeting_by b joined xs (pairs met is_void xs ys) h
 
 -- ---- boxes
@@ -167,16 +180,21 @@ interval_test_few d (negated t) = tt
 interval_test_few d (all ts) = tt
 interval_test_few d (any ts) = tt
 interval_test_few d (compare a op l) = on_few a d (compared op l) (compared_few op l)
-interval_test_few d (between a low high) = on_few a d (lying_between low high) (between_few low high)
+interval_test_few d (between a low high) =
+    on_few a d (lying_between low high) (between_few low high)
 interval_test_few d (like a pattern) = tt
-interval_test_few d (one_of a literals) = on_few a d (listed interval.is_void interval.joined (instants_of literals)) (capped_few interval.joined (kept interval.is_void (instants_of literals)))
+interval_test_few d (one_of a literals) =
+    on_few a d (listed interval.is_void interval.joined (instants_of literals))
+    (capped_few interval.joined (kept interval.is_void (instants_of literals)))
 interval_test_few d (is_null a) = tt
 interval_test_few d (ids texts) = tt
 interval_test_few d (bbox a b) = tt
 interval_test_few d (intersects a g) = tt
 interval_test_few d (disjoint a g) = tt
 interval_test_few d (within a g) = tt
-interval_test_few d (during a low high) = on_few a d (lasting (Some (low +ℤ pos 1)) (Some (high -ℤ pos 1))) (lasting_few (Some (low +ℤ pos 1)) (Some (high -ℤ pos 1)))
+interval_test_few d (during a low high) =
+    on_few a d (lasting (Some (low +ℤ pos 1)) (Some (high -ℤ pos 1)))
+    (lasting_few (Some (low +ℤ pos 1)) (Some (high -ℤ pos 1)))
 interval_test_few d (before a at) = on_few a d (dated Lt at) (dated_few Lt at)
 interval_test_few d (after a at) = on_few a d (dated Gt at) (dated_few Gt at)
 interval_test_few d (tequals a at) = on_few a d (dated Eq at) (dated_few Eq at)

@@ -1,5 +1,6 @@
 -- The keys of identifiers that are listed are read.
-use Rattle.std.proofs.Common.{◌≡◌, ℕ, true, false, List, [], ◌∷◌, ◌++◌, map, refl, sym, ap, ◌∙◌, true≢false, ◌⊎◌, inl, inr, Some, arith, append-nil}
+use Rattle.std.proofs.Common.{◌≡◌, ℕ, true, false, List, [], ◌∷◌, ◌++◌, map, refl, sym, ap, ◌∙◌}
+use Rattle.std.proofs.Common.{true≢false, ◌⊎◌, inl, inr, Some, arith, append-nil}
 use Rattle.std.proofs.lemmas.Bool.{or_left, or_right, or_cases}
 use Rattle.std.specs.Prelude.{nat_eq}
 use Rattle.std.specs.List.{list_any}
@@ -26,8 +27,10 @@ use Rattle.gm_plan.proofs.Within.{any_range, prefix_end_alone, within_is}
 
 pub record IdLaws : Type 0 where
   pub to_the_end : (t : Specification) (kind : IndexKind) (low rest : List ℕ)
-      → is_from_to (prefix_of t kind ++ low) (after_of (prefix_of t kind)) (prefix_of t kind ++ rest) ≡ is_le (slice_cmp nat_cmp low rest)
-  pub one : (key other : List ℕ) → is_from_to key (Some (key ++ 0 ∷ [])) other ≡ pointwise nat_eq key other
+      → is_from_to (prefix_of t kind ++ low) (after_of (prefix_of t kind))
+      (prefix_of t kind ++ rest) ≡ is_le (slice_cmp nat_cmp low rest)
+  pub one : (key other : List ℕ)
+      → is_from_to key (Some (key ++ 0 ∷ [])) other ≡ pointwise nat_eq key other
 
 nothing_first : (rest : List ℕ) → is_le (slice_cmp nat_cmp [] rest) ≡ true
 nothing_first [] = refl
@@ -40,23 +43,38 @@ module _ (laws : IdLaws) (s : Specification) (id : List ℕ) where
   in_all : is_within (prefix_of s Id) (end_of (prefix_of s Id)) key ≡ true
   in_all =
       within_is (prefix_of s Id) (prefix_of s Id) key (prefix_end_alone s Id)
-      ∙ ap (λ low. is_from_to low (after_of (prefix_of s Id)) key) (sym (append-nil (prefix_of s Id)))
+      ∙ ap (λ low. is_from_to low (after_of (prefix_of s Id)) key)
+      (sym (append-nil (prefix_of s Id)))
       ∙ laws.to_the_end s Id [] id ∙ nothing_first id
 
-  in_own : (other : List ℕ) → bytes_eq id other ≡ true → is_within (prefix_of s Id ++ other) ((prefix_of s Id ++ other) ++ 0 ∷ []) key ≡ true
+  in_own : (other : List ℕ) → bytes_eq id other ≡ true
+      → is_within (prefix_of s Id ++ other) ((prefix_of s Id ++ other) ++ 0 ∷ []) key ≡ true
   in_own other h =
       laws.one (prefix_of s Id ++ other) key
-      ∙ (bytes_decides (prefix_of s Id ++ other) key).1 (ap (λ xs. prefix_of s Id ++ xs) (sym ((bytes_decides id other).0 h)))
+      ∙ (bytes_decides (prefix_of s Id ++ other) key).1
+      (ap (λ xs. prefix_of s Id ++ xs) (sym ((bytes_decides id other).0 h)))
 
-  in_listed : (ids : List (List ℕ)) → list_any (bytes_eq id) ids ≡ true → is_inside key (spans_in (prefix_of s Id) (map (λ i. OneId i) ids) 0) ≡ true
+  in_listed : (ids : List (List ℕ)) → list_any (bytes_eq id) ids ≡ true
+      → is_inside key (spans_in (prefix_of s Id) (map (λ i. OneId i) ids) 0) ≡ true
   in_listed [] h = absurd (true≢false (sym h))
-  in_listed (other ∷ ids) h = by (or_cases (bytes_eq id other) (list_any (bytes_eq id) ids) h) (λ there. in_listed ids there)
+  in_listed (other ∷ ids) h =
+      by (or_cases (bytes_eq id other) (list_any (bytes_eq id) ids) h)
+      (λ there. in_listed ids there)
     where
-      by : (bytes_eq id other ≡ true) ⊎ (list_any (bytes_eq id) ids ≡ true) → (list_any (bytes_eq id) ids ≡ true → is_inside key (spans_in (prefix_of s Id) (map (λ i. OneId i) ids) 0) ≡ true) → is_inside key (spans_in (prefix_of s Id) (map (λ i. OneId i) (other ∷ ids)) 0) ≡ true
-      by (inl here) rec = or_left _ (is_inside key (spans_in (prefix_of s Id) (map (λ i. OneId i) ids) 0)) (in_own other here)
-      by (inr there) rec = or_right (is_within (prefix_of s Id ++ other) ((prefix_of s Id ++ other) ++ 0 ∷ []) key) _ (rec there)
+      by : (bytes_eq id other ≡ true) ⊎ (list_any (bytes_eq id) ids ≡ true)
+          → (list_any (bytes_eq id) ids ≡ true
+          → is_inside key (spans_in (prefix_of s Id) (map (λ i. OneId i) ids) 0) ≡ true)
+          → is_inside key (spans_in (prefix_of s Id) (map (λ i. OneId i) (other ∷ ids)) 0)
+          ≡ true
+      by (inl here) rec =
+          or_left _ (is_inside key (spans_in (prefix_of s Id) (map (λ i. OneId i) ids) 0))
+          (in_own other here)
+      by (inr there) rec =
+          or_right (is_within (prefix_of s Id ++ other) ((prefix_of s Id ++ other) ++ 0 ∷ []) key)
+          _ (rec there)
 
-  in_ranges : (b : Bound (List ℕ)) → IsFound (bytes_eq id) b → is_inside key (spans_in (prefix_of s Id) (id_ranges b) 0) ≡ true
+  in_ranges : (b : Bound (List ℕ)) → IsFound (bytes_eq id) b
+      → is_inside key (spans_in (prefix_of s Id) (id_ranges b) 0) ≡ true
   in_ranges World h = or_left _ false in_all
   in_ranges (Listed ids) h = in_listed ids h
 
@@ -64,9 +82,11 @@ has_key : (s : Specification) (f : Feature) → key_of s Id f ≡ Some (prefix_o
 unfolding front_of
 has_key s f = refl
 
-pub id_read : IdLaws → (s : Specification) (t : Tree) (target : ℕ) (f : Feature) → IsFound (bytes_eq f.id) (ids_of t) → IsRead s Id t target f
+pub id_read : IdLaws → (s : Specification) (t : Tree) (target : ℕ) (f : Feature)
+    → IsFound (bytes_eq f.id) (ids_of t) → IsRead s Id t target f
 id_read laws s t target f found = record {
   key = prefix_of s Id ++ f.id;
   has = has_key s f;
-  inside = any_range _ (spans_in (prefix_of s Id) (id_ranges (ids_of t))) 0 1 0 (omega arith) (in_ranges laws s f.id (ids_of t) found);
+  inside = any_range _ (spans_in (prefix_of s Id) (id_ranges (ids_of t))) 0 1 0 (omega arith)
+      (in_ranges laws s f.id (ids_of t) found);
 }

@@ -1,5 +1,6 @@
 -- The codes of a tree have 64 bits.
-use Rattle.std.proofs.Common.{◌≡◌, ℕ, zero, suc, ◌+◌, ◌-◌, ◌*◌, ◌^◌, ◌<◌, ◌≤◌, sym, ap, ◌∙◌, ◌⊎◌, inl, inr, arith, subst}
+use Rattle.std.proofs.Common.{◌≡◌, ℕ, zero, suc, ◌+◌, ◌-◌, ◌*◌, ◌^◌, ◌<◌, ◌≤◌, sym, ap, ◌∙◌, ◌⊎◌}
+use Rattle.std.proofs.Common.{inl, inr, arith, subst}
 use Rattle.std.proofs.lemmas.Nat.{pow_below, pow-add}
 use Rattle.gm_curve.specs.Listing.{sequence_count}
 use Rattle.gm_trees.specs.Z.{z_shape, IsZSize}
@@ -13,7 +14,8 @@ z_room D B size =
     let fits = size.fits in
     let e : B - 0 ≡ B = omega arith in
     let less : D * B < 64 = omega arith in
-    subst (λ b. 0 + (2 ^ (D * b) - 1) < 2 ^ 64) (sym e) (less_one (2 ^ (D * B)) (2 ^ 64) (pow_below (D * B) 64 less))
+    subst (λ b. 0 + (2 ^ (D * b) - 1) < 2 ^ 64) (sym e)
+    (less_one (2 ^ (D * B)) (2 ^ 64) (pow_below (D * B) 64 less))
 
 two_at_least : (D : ℕ) → 1 ≤ D → 2 ≤ 2 ^ D
 two_at_least (suc zero) h = omega arith
@@ -29,12 +31,16 @@ count_below D zero some =
     subst (λ n. 1 + 1 ≤ 2 ^ n) (sym e) (two_at_least D some)
 count_below D (suc g) some =
     let e : D * (suc g + 1) ≡ D + D * (g + 1) = grind arith in
-    subst (λ n. 1 + 2 ^ D * sequence_count D g + 1 ≤ n) (sym (ap (λ n. 2 ^ n) e ∙ pow-add 2 D (D * (g + 1))))
-    (next_count (2 ^ D) (sequence_count D g) (2 ^ (D * (g + 1))) (two_at_least D some) (count_below D g some))
+    subst (λ n. 1 + 2 ^ D * sequence_count D g + 1 ≤ n)
+    (sym (ap (λ n. 2 ^ n) e ∙ pow-add 2 D (D * (g + 1))))
+    (next_count (2 ^ D) (sequence_count D g) (2 ^ (D * (g + 1))) (two_at_least D some)
+    (count_below D g some))
 
 few_bits : (D G : ℕ) → (D ≡ 2) ⊎ (D ≡ 3) → G ≤ 16 → (1 ≤ D) × (D * (G + 1) < 64)
-few_bits D G (inl e) h = subst (λ d. (1 ≤ d) × (d * (G + 1) < 64)) (sym e) (omega arith, omega arith)
-few_bits D G (inr e) h = subst (λ d. (1 ≤ d) × (d * (G + 1) < 64)) (sym e) (omega arith, omega arith)
+few_bits D G (inl e) h =
+    subst (λ d. (1 ≤ d) × (d * (G + 1) < 64)) (sym e) (omega arith, omega arith)
+few_bits D G (inr e) h =
+    subst (λ d. (1 ≤ d) × (d * (G + 1) < 64)) (sym e) (omega arith, omega arith)
 
 pub xz_room : (D G : ℕ) → IsXzSize D G → (xz_shape D G).last (xz_shape D G).root < 2 ^ 64
 xz_room D G size =
@@ -42,7 +48,8 @@ xz_room D G size =
     let e : G - 0 ≡ G = omega arith in
     let below = count_below D G bits.0 in
     let power = pow_below (D * (G + 1)) 64 bits.1 in
-    subst (λ g. 0 + (sequence_count D g - 1) < 2 ^ 64) (sym e) (less_one (sequence_count D G) (2 ^ 64) (between _ _ _ below power))
+    subst (λ g. 0 + (sequence_count D g - 1) < 2 ^ 64) (sym e)
+    (less_one (sequence_count D G) (2 ^ 64) (between _ _ _ below power))
   where
     between : (a b c : ℕ) → a + 1 ≤ b → b < c → a < c
     between a b c h k = omega arith

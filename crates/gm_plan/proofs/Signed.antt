@@ -17,9 +17,11 @@ pub same_window : (a b : Window) → a.low ≡ b.low → a.high ≡ b.high → a
 same_window a b p q = λ i. record { low = p i; high = q i }
 
 -- the next number of a range
-pub flat_next : {X : Type 0} (g : ℕ → List X) (n : ℕ) → flat_map g (range_with_len 0 (n + 1)) ≡ flat_map g (range_with_len 0 n) ++ g n
+pub flat_next : {X : Type 0} (g : ℕ → List X) (n : ℕ)
+    → flat_map g (range_with_len 0 (n + 1)) ≡ flat_map g (range_with_len 0 n) ++ g n
 flat_next g n =
     let e : 0 + n ≡ n = omega arith in
-    ap (flat_map g) (range_split 0 n 1) ∙ flat_map-append g (range_with_len 0 n) (range_with_len (0 + n) 1)
+    ap (flat_map g) (range_split 0 n 1)
+    ∙ flat_map-append g (range_with_len 0 n) (range_with_len (0 + n) 1)
     ∙ ap (λ k. flat_map g (range_with_len 0 n) ++ flat_map g (range_with_len k 1)) e
     ∙ ap (λ xs. flat_map g (range_with_len 0 n) ++ xs) (append-nil (g n))

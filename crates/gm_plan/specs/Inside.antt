@@ -27,7 +27,8 @@ abbrev pub read_spans : Specification → IndexKind → Tree → ℕ → List Sp
 read_spans s kind t target = spans_of s kind (key_ranges s kind t target)
 
 -- the feature has a key in the index, and it is read
-pub record IsRead (s : Specification) (kind : IndexKind) (t : Tree) (target : ℕ) (f : Feature) : Type 0 where
+pub record IsRead (s : Specification) (kind : IndexKind) (t : Tree) (target : ℕ)
+    (f : Feature) : Type 0 where
   pub key : List ℕ
   pub has : key_of s kind f ≡ Some key
   pub inside : is_inside key (read_spans s kind t target) ≡ true
@@ -36,11 +37,14 @@ pub record IsRead (s : Specification) (kind : IndexKind) (t : Tree) (target : �
 abbrev pub LosesNone : IndexKind → Type 0
 LosesNone kind =
     (s : Specification) (t : Tree) (target : ℕ) (f : Feature) → HoldsTogether s → Suits s t
-    → does_apply s kind t ≡ true → 1 ≤ target → Fits s f → is_true f t ≡ true → IsRead s kind t target f
+    → does_apply s kind t ≡ true → 1 ≤ target → Fits s f → is_true f t ≡ true
+    → IsRead s kind t target f
 
 -- the ranges number at most the target
 abbrev pub KeepsTarget : IndexKind → Type 0
-KeepsTarget kind = (s : Specification) (t : Tree) (target : ℕ) → 1 ≤ target → length (key_ranges s kind t target).ranges ≤ target
+KeepsTarget kind =
+    (s : Specification) (t : Tree) (target : ℕ) → 1 ≤ target
+    → length (key_ranges s kind t target).ranges ≤ target
 
 -- as many as a bound has, and one where it is the world
 abbrev pub count_of : {X : Type 0} → Bound X → ℕ

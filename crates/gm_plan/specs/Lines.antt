@@ -5,7 +5,8 @@ use Rattle.std.specs.List.{flat_map}
 use Rattle.hex.specs.Hex.{encode_lower}
 use Rattle.gm_bounds.specs.declared.ranges.KeyRanges.{KeyRanges}
 use Rattle.gm_bounds.specs.declared.ranges.Range.{Range}
-use Rattle.gm_bounds.specs.declared.ranges.Range.TheVariants.{Codes, InBin, Span, Values, OneId, All}
+use Rattle.gm_bounds.specs.declared.ranges.Range.TheVariants.{Codes, InBin, Span, Values, OneId}
+use Rattle.gm_bounds.specs.declared.ranges.Range.TheVariants.{All}
 
 -- a blank, and a number
 abbrev pub number_behind : ℕ → List ℕ
@@ -29,7 +30,8 @@ values_text low high = codes "range " ++ (low_text low ++ (codes " " ++ high_tex
 
 abbrev pub line_of_range : Range → List ℕ
 line_of_range (Codes low high level) = codes "run " ++ run_text low high level
-line_of_range (InBin number low high level) = codes "run " ++ (decimal number ++ (codes " " ++ run_text low high level))
+line_of_range (InBin number low high level) =
+    codes "run " ++ (decimal number ++ (codes " " ++ run_text low high level))
 line_of_range (Span first last) = codes "span " ++ (decimal first ++ number_behind last)
 line_of_range (Values low high) = values_text low high
 line_of_range (OneId id) = codes "id " ++ id

@@ -1,5 +1,6 @@
 -- Byte ranges in order, those that overlap or touch made one.
-use Rattle.std.specs.Prelude.{ℕ, Bool, false, if◌then◌else◌, List, [], ◌∷◌, fold, Option, Some, None}
+use Rattle.std.specs.Prelude.{ℕ, Bool, false, if◌then◌else◌, List, [], ◌∷◌, fold, Option, Some}
+use Rattle.std.specs.Prelude.{None}
 use Rattle.gm_bounds.specs.declared.byte_range.ByteRange.{ByteRange}
 use Rattle.gm_bounds.specs.ByteRange.{is_less, joined}
 
@@ -11,7 +12,8 @@ ends_below (Some high) low = is_less high low
 abbrev pub stands_before : ByteRange → ByteRange → Bool
 stands_before r s = ends_below r.high s.low
 
--- a range put in its place among ranges in order: those that it overlaps or touches become one with it
+-- a range put in its place among ranges in order: those that it overlaps or touches become one with
+-- it
 abbrev pub merged_in : ByteRange → List ByteRange → List ByteRange
 merged_in r [] = r ∷ []
 merged_in r (s ∷ ranges) =

@@ -7,7 +7,8 @@ use Rattle.gm_types.specs.Specification.{Specification}
 use Rattle.gm_keys.specs.Key.{prefix_of, code_front, bin_front, bin_code_front}
 use Rattle.gm_bounds.specs.declared.ranges.KeyRanges.{KeyRanges}
 use Rattle.gm_bounds.specs.declared.ranges.Range.{Range}
-use Rattle.gm_bounds.specs.declared.ranges.Range.TheVariants.{Codes, InBin, Span, Values, OneId, All}
+use Rattle.gm_bounds.specs.declared.ranges.Range.TheVariants.{Codes, InBin, Span, Values, OneId}
+use Rattle.gm_bounds.specs.declared.ranges.Range.TheVariants.{All}
 
 -- the end of what begins so; nothing begins with 0xFF alone in front of it
 abbrev pub end_or_none : Option (List ℕ) → List ℕ
@@ -29,10 +30,12 @@ value_end prefix (Some high) = prefix ++ high
 
 -- the span of a range in a shard, where keys have that prefix
 abbrev pub span_behind : List ℕ → ℕ → Range → List ℕ × List ℕ
-span_behind prefix shard (Codes low high level) = from_to (code_front prefix shard low) (code_front prefix shard high)
+span_behind prefix shard (Codes low high level) =
+    from_to (code_front prefix shard low) (code_front prefix shard high)
 span_behind prefix shard (InBin number low high level) =
     from_to (bin_code_front prefix shard number low) (bin_code_front prefix shard number high)
-span_behind prefix shard (Span first last) = from_to (bin_front prefix shard first) (bin_front prefix shard last)
+span_behind prefix shard (Span first last) =
+    from_to (bin_front prefix shard first) (bin_front prefix shard last)
 span_behind prefix shard (Values low high) = (prefix ++ low, value_end prefix high)
 span_behind prefix shard (OneId id) = (prefix ++ id, (prefix ++ id) ++ 0 ∷ [])
 span_behind prefix shard All = from_to prefix prefix

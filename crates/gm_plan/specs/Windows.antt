@@ -11,7 +11,8 @@ use Rattle.gm_plan.specs.Bins.{start_in, end_in, meets_bin, offset_in}
 
 -- from the cell of the one corner to that of the other
 abbrev pub window_of : ℕ → Box2 → Window
-window_of bits b = record { low = cell_of (cells_of bits b.low); high = cell_of (cells_of bits b.high) }
+window_of bits b =
+    record { low = cell_of (cells_of bits b.low); high = cell_of (cells_of bits b.high) }
 
 abbrev pub windows_of : ℕ → List Box2 → List Window
 windows_of bits boxes = map (window_of bits) boxes
@@ -26,4 +27,5 @@ window_in period bits number b i = record {
 -- each box with each interval that meets the bin
 abbrev pub windows_in : Period → ℕ → List Box2 → List Interval → ℕ → List Window
 windows_in period bits boxes intervals number =
-    flat_map (λ b. map (window_in period bits number b) (filter (meets_bin period number) intervals)) boxes
+    flat_map (λ b. map (window_in period bits number b)
+    (filter (meets_bin period number) intervals)) boxes

@@ -12,7 +12,8 @@ use Rattle.gm_prepared.specs.Edge.{segment_of, numbered_edges}
 use Rattle.gm_prepared.specs.Placing.{AreBands, IsFlatIn}
 
 -- the bounds are those of the geometry, which is kept, and the lists its bands
-pub record IsPrepared (geometry : Geometry) (bounds : Box2) (lists : List (List Edge)) : Type 0 where
+pub record IsPrepared (geometry : Geometry) (bounds : Box2)
+    (lists : List (List Edge)) : Type 0 where
   pub kept : fault_of geometry ≡ None
   pub extent : extent_of (points_of geometry) ≡ Some bounds
   pub held : HoldsAll bounds (points_of geometry)

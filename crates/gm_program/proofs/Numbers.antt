@@ -1,5 +1,6 @@
 -- What parse says of the numbers that are read.
-use Rattle.std.proofs.Common.{◌≡◌, ℕ, ◌^◌, ◌<◌, ◌==◌, ◌&&◌, not, nat_le, Bool, true, false, cond, List, [], ◌∷◌, length, drop, Some, None, refl, ap, subst, arith}
+use Rattle.std.proofs.Common.{◌≡◌, ℕ, ◌^◌, ◌<◌, ◌==◌, ◌&&◌, not, nat_le, Bool, true, false, cond}
+use Rattle.std.proofs.Common.{List, [], ◌∷◌, length, drop, Some, None, refl, ap, subst, arith}
 use Rattle.std.specs.List.{list_all}
 use Rattle.std.specs.Char.{is_ascii_digit, digit_value}
 use Rattle.std.specs.Str.Parse.{AllDigits, IsNumeral, digits_value, without_leading_plus}
@@ -17,7 +18,8 @@ low_digit c digit = grind (arith, nat_tests)
 all_digits : (bytes : List ℕ) → list_all is_ascii_digit bytes ≡ true → AllDigits 10 bytes
 all_digits [] all = tt
 all_digits (b ∷ bytes) all =
-    let each : (is_ascii_digit b ≡ true) × (list_all is_ascii_digit bytes ≡ true) = both_true (is_ascii_digit b) (list_all is_ascii_digit bytes) all in
+    let each : (is_ascii_digit b ≡ true) × (list_all is_ascii_digit bytes ≡ true) =
+    both_true (is_ascii_digit b) (list_all is_ascii_digit bytes) all in
     (low_digit b each.0, all_digits bytes each.1)
 
 no_plus : (c : ℕ) → is_ascii_digit c ≡ true → (c == 43) ≡ false
@@ -27,7 +29,8 @@ no_plus c digit = grind (arith, nat_tests)
 bare : (bytes : List ℕ) → list_all is_ascii_digit bytes ≡ true → without_leading_plus bytes ≡ bytes
 bare [] all = refl
 bare (b ∷ bytes) all =
-    let each : (is_ascii_digit b ≡ true) × (list_all is_ascii_digit bytes ≡ true) = both_true (is_ascii_digit b) (list_all is_ascii_digit bytes) all in
+    let each : (is_ascii_digit b ≡ true) × (list_all is_ascii_digit bytes ≡ true) =
+    both_true (is_ascii_digit b) (list_all is_ascii_digit bytes) all in
     ap (λ t. drop (cond t 1 0) (b ∷ bytes)) (no_plus b each.0)
 
 some : (bytes : List ℕ) → not (is_empty bytes) ≡ true → 0 < length bytes
@@ -36,14 +39,20 @@ some (b ∷ bytes) e = omega arith
 
 -- what parse refuses is above each number of 64 bits
 pub refused : (least most : ℕ) (bytes : List ℕ) → most < 2 ^ 64
-    → ¬ (IsNumeral 10 (without_leading_plus bytes) × (digits_value 10 (without_leading_plus bytes) < 2 ^ 64))
+    → ¬ (IsNumeral 10 (without_leading_plus bytes)
+    × (digits_value 10 (without_leading_plus bytes) < 2 ^ 64))
     → is_plain_number bytes ≡ true → None ≡ number_between least most bytes
 refused least most bytes small refusal plain =
-    let parts : (not (is_empty bytes) ≡ true) × ((list_all is_ascii_digit bytes && not (is_padded_text bytes)) ≡ true) = both_true (not (is_empty bytes)) _ plain in
-    let digits : (list_all is_ascii_digit bytes ≡ true) × (not (is_padded_text bytes) ≡ true) = both_true (list_all is_ascii_digit bytes) _ parts.1 in
+    let parts : (not (is_empty bytes) ≡ true)
+    × ((list_all is_ascii_digit bytes && not (is_padded_text bytes)) ≡ true) =
+    both_true (not (is_empty bytes)) _ plain in
+    let digits : (list_all is_ascii_digit bytes ≡ true) × (not (is_padded_text bytes) ≡ true) =
+    both_true (list_all is_ascii_digit bytes) _ parts.1 in
     let no_bare : ¬ (IsNumeral 10 bytes × (digits_value 10 bytes < 2 ^ 64)) =
-    subst (λ ds. ¬ (IsNumeral 10 ds × (digits_value 10 ds < 2 ^ 64))) (bare bytes digits.0) refusal in
-    let high : ¬ (digits_value 10 bytes < 2 ^ 64) = λ below. no_bare ((some bytes parts.0, all_digits bytes digits.0), below) in
+    subst (λ ds. ¬ (IsNumeral 10 ds × (digits_value 10 ds < 2 ^ 64)))
+    (bare bytes digits.0) refusal in
+    let high : ¬ (digits_value 10 bytes < 2 ^ 64) =
+    λ below. no_bare ((some bytes parts.0, all_digits bytes digits.0), below) in
     rw (plain) (above (digits_value 10 bytes) (digits_value 10 bytes) high)
   where
     above : (n v : ℕ) → ¬ (n < 2 ^ 64) → None ≡ cond (nat_le least n && nat_le n most) (Some v) None

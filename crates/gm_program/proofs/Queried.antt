@@ -34,28 +34,45 @@ use Rattle.gm_program.proofs.Planned.{step_answered, are_named}
 use Rattle.gm_program.proofs.Questions.{FindAll, tests_same}
 
 -- in order they are those of the answer, which fit
-pub rows_are : FindAll → (s : State) (a : Asked) (t : Specification) (parts : List Part) (target : ℕ) (rows : List FoundRow) (types : Types) (table : Rows)
-    → Holds s types table → type_at t.number s ≡ Some t → t.number ≡ a.number → IsPlanned t a (plan.Parts parts target) → AreKept s t.number (tests_of (map chosen_of parts)) keeping_of.Rows rows
+pub rows_are : FindAll
+    → (s : State) (a : Asked) (t : Specification) (parts : List Part) (target : ℕ)
+    (rows : List FoundRow) (types : Types) (table : Rows)
+    → Holds s types table → type_at t.number s ≡ Some t → t.number ≡ a.number
+    → IsPlanned t a (plan.Parts parts target)
+    → AreKept s t.number (tests_of (map chosen_of parts)) keeping_of.Rows rows
     → AreRowsOf t (in_order rows) (answer a.number a.wanted s)
 rows_are all s a t parts target rows types table holds typed number planned kept =
     let fit : All (Fits t) (answer t.number a.wanted s) =
-    All-from_recursion (Fits t) (answer t.number a.wanted s) (each_as (answer t.number a.wanted s) (λ f bound. (holds.state.held t.number t f.id f typed bound).fits)
+    All-from_recursion (Fits t) (answer t.number a.wanted s)
+    (each_as (answer t.number a.wanted s)
+    (λ f bound. (holds.state.held t.number t f.id f typed bound).fits)
     (answer_bound s t.number a.wanted (are_named s t holds.state typed))) in
     record {
       fit = subst (λ (n : ℕ). All (Fits t) (answer n a.wanted s)) number fit;
-      are = kept_in_order s t.number (tests_of (map chosen_of parts)) a.wanted keeping_of.Rows rows (are_named s t holds.state typed) kept (tests_same all t a parts planned.2)
+      are = kept_in_order s t.number (tests_of (map chosen_of parts)) a.wanted keeping_of.Rows rows
+          (are_named s t holds.state typed) kept (tests_same all t a parts planned.2)
           ∙ ap (λ (n : ℕ). map row_of (answer n a.wanted s)) number;
     }
 
-pub query_reply : FindAll → (s : State) (a : Asked) (t : Specification) (parts : List Part) (target : ℕ) (rows : List FoundRow) (lines : List ℕ) (matched examined before after : ℕ) (types : Types) (table : Rows)
-    → Holds s types table → type_at t.number s ≡ Some t → t.number ≡ a.number → IsPlanned t a (plan.Parts parts target) → AreKept s t.number (tests_of (map chosen_of parts)) keeping_of.Rows rows
-    → ((features : List Feature) → AreRowsOf t (in_order rows) features → (lines ≡ flat_map row_line features) × (matched ≡ length features))
-    → (examined ≡ rows_examined t target (rows_of s) (map chosen_of parts)) × (after ≡ capped_sum before examined)
+pub query_reply : FindAll
+    → (s : State) (a : Asked) (t : Specification) (parts : List Part) (target : ℕ)
+    (rows : List FoundRow) (lines : List ℕ) (matched examined before after : ℕ) (types : Types)
+    (table : Rows)
+    → Holds s types table → type_at t.number s ≡ Some t → t.number ≡ a.number
+    → IsPlanned t a (plan.Parts parts target)
+    → AreKept s t.number (tests_of (map chosen_of parts)) keeping_of.Rows rows
+    → ((features : List Feature) → AreRowsOf t (in_order rows) features
+    → (lines ≡ flat_map row_line features) × (matched ≡ length features))
+    → (examined ≡ rows_examined t target (rows_of s) (map chosen_of parts))
+    × (after ≡ capped_sum before examined)
     → Executes (query_step a s) (Some (reply.Found lines matched examined)) types table before after
-query_reply all s a t parts target rows lines matched examined before after types table holds typed number planned kept printed read =
+query_reply all s a t parts target rows lines matched examined before after types table holds typed
+    number planned kept printed read =
     let at : type_at a.number s ≡ Some t = ap (λ (n : ℕ). type_at n s) (sym number) ∙ typed in
-    let said = printed (answer a.number a.wanted s) (rows_are all s a t parts target rows types table holds typed number planned kept) in
-    let count : examined ≡ rows_examined t a.target (rows_of s) (map chosen_of parts) = read.0 ∙ ap (λ (n : ℕ). rows_examined t n (rows_of s) (map chosen_of parts)) planned.0 in
+    let said = printed (answer a.number a.wanted s)
+    (rows_are all s a t parts target rows types table holds typed number planned kept) in
+    let count : examined ≡ rows_examined t a.target (rows_of s) (map chosen_of parts) =
+    read.0 ∙ ap (λ (n : ℕ). rows_examined t n (rows_of s) (map chosen_of parts)) planned.0 in
     subst (λ o. Executes o (Some (reply.Found lines matched examined)) types table before after)
     (sym (step_answered s a t (found a s) (map chosen_of parts) at planned.2 planned.1)) (record {
       store = holds;
@@ -63,16 +80,24 @@ query_reply all s a t parts target rows lines matched examined before after type
       tally = read.1 ∙ ap (capped_sum before) count;
     })
 
-pub count_reply : FindAll → (s : State) (a : Asked) (t : Specification) (parts : List Part) (target : ℕ) (matched examined before after : ℕ) (types : Types) (table : Rows)
-    → Holds s types table → type_at t.number s ≡ Some t → t.number ≡ a.number → IsPlanned t a (plan.Parts parts target) → Counts s t.number (tests_of (map chosen_of parts)) matched
-    → (examined ≡ rows_examined t target (rows_of s) (map chosen_of parts)) × (after ≡ capped_sum before examined)
+pub count_reply : FindAll
+    → (s : State) (a : Asked) (t : Specification) (parts : List Part) (target : ℕ)
+    (matched examined before after : ℕ) (types : Types) (table : Rows)
+    → Holds s types table → type_at t.number s ≡ Some t → t.number ≡ a.number
+    → IsPlanned t a (plan.Parts parts target)
+    → Counts s t.number (tests_of (map chosen_of parts)) matched
+    → (examined ≡ rows_examined t target (rows_of s) (map chosen_of parts))
+    × (after ≡ capped_sum before examined)
     → Executes (count_step a s) (Some (reply.Counted matched examined)) types table before after
-count_reply all s a t parts target matched examined before after types table holds typed number planned counts read =
+count_reply all s a t parts target matched examined before after types table holds typed number
+    planned counts read =
     let at : type_at a.number s ≡ Some t = ap (λ (n : ℕ). type_at n s) (sym number) ∙ typed in
     let same : matched ≡ length (answer a.number a.wanted s) =
-    counts.are ∙ answer_length s t.number (tests_of (map chosen_of parts)) a.wanted counts.held (are_named s t holds.state typed) counts.collects (tests_same all t a parts planned.2)
+    counts.are ∙ answer_length s t.number (tests_of (map chosen_of parts)) a.wanted counts.held
+    (are_named s t holds.state typed) counts.collects (tests_same all t a parts planned.2)
     ∙ ap (λ (n : ℕ). length (answer n a.wanted s)) number in
-    let count : examined ≡ rows_examined t a.target (rows_of s) (map chosen_of parts) = read.0 ∙ ap (λ (n : ℕ). rows_examined t n (rows_of s) (map chosen_of parts)) planned.0 in
+    let count : examined ≡ rows_examined t a.target (rows_of s) (map chosen_of parts) =
+    read.0 ∙ ap (λ (n : ℕ). rows_examined t n (rows_of s) (map chosen_of parts)) planned.0 in
     subst (λ o. Executes o (Some (reply.Counted matched examined)) types table before after)
     (sym (step_answered s a t (counted a s) (map chosen_of parts) at planned.2 planned.1)) (record {
       store = holds;

@@ -11,7 +11,10 @@ use Rattle.gm_engine_rows.specs.Rows.{rows_of, row_map}
 
 pub rows_of-none : rows_of [] ≡ []
 unfolding rows_of row_map
-rows_of-none = nil_from_length (map.entries (map.empty {K = List ℕ} {X = List ℕ} {R = slice_cmp nat_cmp})) (sym (len-entries (map.empty {K = List ℕ} {X = List ℕ} {R = slice_cmp nat_cmp})) ∙ len-empty (slice_cmp nat_cmp) (List ℕ))
+rows_of-none =
+    nil_from_length (map.entries (map.empty {K = List ℕ} {X = List ℕ} {R = slice_cmp nat_cmp}))
+    (sym (len-entries (map.empty {K = List ℕ} {X = List ℕ} {R = slice_cmp nat_cmp}))
+    ∙ len-empty (slice_cmp nat_cmp) (List ℕ))
 
 pub is_state-none : IsState []
 unfolding are_distinct

@@ -1,5 +1,6 @@
 -- What is collected of features by their identifiers.
-use Rattle.std.specs.Prelude.{◌≡◌, ℕ, Bool, if◌then◌else◌, List, [], ◌∷◌, length, Option, Some, None}
+use Rattle.std.specs.Prelude.{◌≡◌, ℕ, Bool, if◌then◌else◌, List, [], ◌∷◌, length, Option, Some}
+use Rattle.std.specs.Prelude.{None}
 use Rattle.std.specs.List.{list_any}
 use Rattle.std.specs.Ordering.{nat_cmp}
 use Rattle.std.specs.Cmp.Lexicographic.{slice_cmp}
@@ -28,7 +29,8 @@ abbrev pub values_if : List Tree → Option Feature → Option (List Value)
 values_if tests None = None
 values_if tests (Some f) = if list_any (λ test. is_true f test) tests then Some f.values else None
 
--- at each identifier stands the feature of the type with that number, where one of the filters is true of it
+-- at each identifier stands the feature of the type with that number, where one of the filters is
+-- true of it
 pub record Collects (s : State) (n : ℕ) (tests : List Tree) (held : Collected) : Type 0 where
   pub values : map.FinMap (slice_cmp nat_cmp) (List Value)
   pub entries : held ≡ map.entries values

@@ -1,5 +1,6 @@
 -- A script made by a seed: a type, so many features, and counts of them.
-use Rattle.std.specs.Prelude.{ℕ, zero, suc, ◌+◌, ◌*◌, ◌/◌, ◌%◌, ◌^◌, ℤ, pos, ◌-ℤ◌, List, [], ◌∷◌, ◌++◌, codes}
+use Rattle.std.specs.Prelude.{ℕ, zero, suc, ◌+◌, ◌*◌, ◌/◌, ◌%◌, ◌^◌, ℤ, pos, ◌-ℤ◌, List, [], ◌∷◌}
+use Rattle.std.specs.Prelude.{◌++◌, codes}
 use Rattle.std.specs.Fmt.{decimal}
 use Rattle.gm_calendar.specs.Spelling.{instant_text}
 use Rattle.gm_geom.specs.Number.{fixed_text}
@@ -33,18 +34,24 @@ abbrev pub centred : ℕ → ℕ → ℤ
 centred half coordinate = pos coordinate -ℤ pos half
 
 abbrev pub place_text : ℕ → ℕ → List ℕ
-place_text x y = codes ",POINT (" ++ (fixed_text (centred 1800000000 x) ++ (codes " " ++ (fixed_text (centred 900000000 y) ++ line (codes ")"))))
+place_text x y =
+    codes ",POINT ("
+    ++ (fixed_text (centred 1800000000 x)
+    ++ (codes " " ++ (fixed_text (centred 900000000 y) ++ line (codes ")"))))
 
 -- the feature with this number: a name, a number, a second of 2020 and a place, drawn in this order
 unfoldable pub put_line : ℕ → ℕ → List ℕ
-put_line number state = codes "put gen g" ++ (decimal number ++ (codes ",n" ++ (decimal (drawn 100 (behind 1 state))
-    ++ (codes "," ++ (decimal (drawn 1000 (behind 2 state)) ++ (codes "," ++ (instant_text (second_of_2020 (drawn 31536000 (behind 3 state)))
+put_line number state =
+    codes "put gen g" ++ (decimal number ++ (codes ",n" ++ (decimal (drawn 100 (behind 1 state))
+    ++ (codes "," ++ (decimal (drawn 1000 (behind 2 state))
+    ++ (codes "," ++ (instant_text (second_of_2020 (drawn 31536000 (behind 3 state)))
     ++ place_text (drawn 3600000001 (behind 4 state)) (drawn 1800000001 (behind 5 state)))))))))
 
 -- so many features, the first with this number
 abbrev pub put_lines : ℕ → ℕ → ℕ → List ℕ
 put_lines zero number state = []
-put_lines (suc count) number state = put_line number state ++ put_lines count (number + 1) (behind 5 state)
+put_lines (suc count) number state =
+    put_line number state ++ put_lines count (number + 1) (behind 5 state)
 
 abbrev pub first_line : List ℕ
 first_line = line (codes "create gen name:String:index=true,n:Integer,dtg:Date,*geom:Point")
@@ -58,7 +65,8 @@ abbrev pub counting : List ℕ
 counting = line (codes "count gen BBOX(geom,-10,-10,10,10)")
     ++ (line (codes "count gen index=id BBOX(geom,-10,-10,10,10)")
     ++ (line (codes "count gen target=1 BBOX(geom,-10,-10,10,10)")
-    ++ (line (codes "count gen BBOX(geom,-90,-45,90,45) AND dtg DURING 2020-03-01T00:00:00Z/2020-04-01T00:00:00Z")
+    ++ (line (codes
+    "count gen BBOX(geom,-90,-45,90,45) AND dtg DURING 2020-03-01T00:00:00Z/2020-04-01T00:00:00Z")
     ++ (line (codes "count gen name = 'n7'")
     ++ (line (codes "count gen name = 'n7' OR IN ('g1','g2')")
     ++ line (codes "count gen n < 10"))))))

@@ -27,6 +27,7 @@ abbrev pub AreBound : List FoundRow → Type 0
 AreBound rows = (bytes_of : List ℕ → List ℕ) × All (λ row. row.1 ≡ bytes_of row.0) rows
 
 -- they are the rows of these features, which fit the type
-pub record AreRowsOf (t : Specification) (rows : List FoundRow) (features : List Feature) : Type 0 where
+pub record AreRowsOf (t : Specification) (rows : List FoundRow)
+    (features : List Feature) : Type 0 where
   pub fit : All (Fits t) features
   pub are : rows ≡ map row_of features

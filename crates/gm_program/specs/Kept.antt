@@ -10,13 +10,15 @@ use Rattle.gm_program.specs.Collecting.{Collects, collected}
 use Rattle.gm_program.specs.Finding.{Finds}
 
 -- a part adds what it finds
-pub record Adds (s : State) (n : ℕ) (test : Tree) (keeping : Keeping) (before after : List FoundRow) : Type 0 where
+pub record Adds (s : State) (n : ℕ) (test : Tree) (keeping : Keeping)
+    (before after : List FoundRow) : Type 0 where
   pub features : List Feature
   pub finds : Finds s n test features
   pub are : after ≡ before ++ map (kept_of keeping) features
 
 -- the rows are what is kept of features of the state, which are those that the filters find
-pub record AreKept (s : State) (n : ℕ) (tests : List Tree) (keeping : Keeping) (rows : List FoundRow) : Type 0 where
+pub record AreKept (s : State) (n : ℕ) (tests : List Tree) (keeping : Keeping)
+    (rows : List FoundRow) : Type 0 where
   pub features : List Feature
   pub are : rows ≡ map (kept_of keeping) features
   pub bound : AllByRecursion (λ f. feature_at n f.id s ≡ Some f) features

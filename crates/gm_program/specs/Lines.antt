@@ -4,12 +4,14 @@ use Rattle.std.specs.Prelude.{ℕ, List, [], ◌∷◌, ◌++◌, take, if◌the
 -- the lines that end in these bytes, where so much of the first was before them
 abbrev pub complete_from : List ℕ → List ℕ → List (List ℕ)
 complete_from held [] = []
-complete_from held (byte ∷ bytes) = if byte == 10 then held ∷ complete_from [] bytes else complete_from (held ++ byte ∷ []) bytes
+complete_from held (byte ∷ bytes) =
+    if byte == 10 then held ∷ complete_from [] bytes else complete_from (held ++ byte ∷ []) bytes
 
 -- what comes after the last of them
 abbrev pub partial_from : List ℕ → List ℕ → List ℕ
 partial_from held [] = held
-partial_from held (byte ∷ bytes) = if byte == 10 then partial_from [] bytes else partial_from (held ++ byte ∷ []) bytes
+partial_from held (byte ∷ bytes) =
+    if byte == 10 then partial_from [] bytes else partial_from (held ++ byte ∷ []) bytes
 
 -- the line at the end of a script, if it is not empty
 abbrev pub last_line : List ℕ → List (List ℕ)

@@ -17,14 +17,20 @@ pub record Machine : Type 0 where
   pub state : State
   pub pending : Pending
 
--- what a line, or the end, makes of it: the machine after it, its reply if there is one, and the rows examined
+-- what a line, or the end, makes of it: the machine after it, its reply if there is one, and the
+-- rows examined
 pub record Turn : Type 0 where
   pub machine : Machine
   pub reply : Option Reply
   pub examined : ℕ
 
 abbrev pub turn_of : Outcome → Turn
-turn_of outcome = record { machine = record { state = outcome.state; pending = Nothing }; reply = outcome.reply; examined = outcome.examined }
+turn_of outcome =
+    record {
+      machine = record { state = outcome.state; pending = Nothing };
+      reply = outcome.reply;
+      examined = outcome.examined;
+    }
 
 -- the outcome of a line that was read so
 abbrev pub outcome_of : Setting → State → Result Order LineFault → Outcome
@@ -52,12 +58,16 @@ after setting m (line ∷ lines) = after setting (line_turn setting m line).mach
 -- the bytes of the replies to these lines
 abbrev pub replies : Setting → Machine → List (List ℕ) → List ℕ
 replies setting m [] = []
-replies setting m (line ∷ lines) = said (line_turn setting m line).reply ++ replies setting (line_turn setting m line).machine lines
+replies setting m (line ∷ lines) =
+    said (line_turn setting m line).reply
+    ++ replies setting (line_turn setting m line).machine lines
 
 -- how many rows these lines examine
 abbrev pub examined_by : Setting → Machine → List (List ℕ) → ℕ
 examined_by setting m [] = 0
-examined_by setting m (line ∷ lines) = (line_turn setting m line).examined + examined_by setting (line_turn setting m line).machine lines
+examined_by setting m (line ∷ lines) =
+    (line_turn setting m line).examined
+    + examined_by setting (line_turn setting m line).machine lines
 
 -- at the start of a script nothing is waited for
 abbrev pub machine_at : State → Machine
@@ -69,11 +79,13 @@ last_turn setting s script = end_turn setting (after setting (machine_at s) (lin
 
 -- the bytes written for a script, from this state: the replies to its lines, and what its end says
 abbrev pub output : Setting → State → List ℕ → List ℕ
-output setting s script = replies setting (machine_at s) (lines_of script) ++ said (last_turn setting s script).reply
+output setting s script =
+    replies setting (machine_at s) (lines_of script) ++ said (last_turn setting s script).reply
 
 -- how many rows a script examines
 abbrev pub examined : Setting → State → List ℕ → ℕ
-examined setting s script = examined_by setting (machine_at s) (lines_of script) + (last_turn setting s script).examined
+examined setting s script =
+    examined_by setting (machine_at s) (lines_of script) + (last_turn setting s script).examined
 
 -- the state after a script
 abbrev pub state_after : Setting → State → List ℕ → State

@@ -9,9 +9,12 @@ use Rattle.gm_program.specs.declared.execute.plan.Planned.{Planned}
 use Rattle.gm_program.specs.declared.execute.plan.Planned.TheVariants as plan
 use Rattle.gm_program.specs.Step.{Outcome, planned, refused, is_target}
 
--- the parts of the plan, each with the target that is asked for; or the refusal, whatever the parts would answer
+-- the parts of the plan, each with the target that is asked for; or the refusal, whatever the parts
+-- would answer
 abbrev pub IsPlanned : Specification → Asked → Planned → Type 0
 IsPlanned t a (plan.Refused code) =
-    (s : State) (outcome : List Chosen → Outcome) → planned s a.target (plan_of t a.wanted a.hint) outcome ≡ refused s code 0
+    (s : State) (outcome : List Chosen → Outcome)
+    → planned s a.target (plan_of t a.wanted a.hint) outcome ≡ refused s code 0
 IsPlanned t a (plan.Parts parts target) =
-    (target ≡ a.target) × (is_target a.target ≡ true) × (plan_of t a.wanted a.hint ≡ Some (map chosen_of parts))
+    (target ≡ a.target) × (is_target a.target ≡ true)
+    × (plan_of t a.wanted a.hint ≡ Some (map chosen_of parts))

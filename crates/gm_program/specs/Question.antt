@@ -15,16 +15,19 @@ use Rattle.gm_strategy.specs.Chosen.{Chosen}
 
 -- the features of a type of which the filter is true, each once, in byte order of their identifiers
 abbrev pub answer : ℕ → Tree → State → List Feature
-answer n wanted s = filter (λ f. is_true f wanted) (map (λ e. e.1) (features.entries (features_of n s)))
+answer n wanted s =
+    filter (λ f. is_true f wanted) (map (λ e. e.1) (features.entries (features_of n s)))
 
 -- how many rows have keys inside the ranges of a part
 abbrev pub rows_read : Specification → ℕ → Rows → Chosen → ℕ
-rows_read t target rows part = count_by (λ row. is_inside row.0 (read_spans t part.index part.wanted target)) rows
+rows_read t target rows part =
+    count_by (λ row. is_inside row.0 (read_spans t part.index part.wanted target)) rows
 
 -- over all parts
 abbrev pub rows_examined : Specification → ℕ → Rows → List Chosen → ℕ
 rows_examined t target rows [] = 0
-rows_examined t target rows (part ∷ parts) = rows_read t target rows part + rows_examined t target rows parts
+rows_examined t target rows (part ∷ parts) =
+    rows_read t target rows part + rows_examined t target rows parts
 
 -- the line of the part with this place, and those of its ranges
 abbrev pub part_lines : Specification → ℕ → ℕ → Chosen → List (List ℕ)
@@ -35,4 +38,5 @@ part_lines t target place part =
 -- those of the parts from a place on
 abbrev pub plan_lines : Specification → ℕ → ℕ → List Chosen → List (List ℕ)
 plan_lines t target place [] = []
-plan_lines t target place (part ∷ parts) = part_lines t target place part ++ plan_lines t target (place + 1) parts
+plan_lines t target place (part ∷ parts) =
+    part_lines t target place part ++ plan_lines t target (place + 1) parts

@@ -14,8 +14,11 @@ use Rattle.gm_program.specs.Collecting.{Counts}
 use Rattle.gm_program.specs.Finding.{Finds}
 use Rattle.gm_program.specs.Question.{rows_read}
 
--- No key is in two of the spans, and each row in them is of a feature of the type. Of these features those of which the filter is true are exactly what the part is to find, each of them once. The rows are as many as the part reads.
-pub record AreReadFor (s : State) (t : Specification) (part : Chosen) (target : ℕ) (rows : Rows) (spans : List Span) : Type 0 where
+-- No key is in two of the spans, and each row in them is of a feature of the type. Of these
+-- features those of which the filter is true are exactly what the part is to find, each of them
+-- once. The rows are as many as the part reads.
+pub record AreReadFor (s : State) (t : Specification) (part : Chosen) (target : ℕ) (rows : Rows)
+    (spans : List Span) : Type 0 where
   pub apart : AreApart spans
   pub of_type : All (λ row. HasFeature t row.1) (rows_in spans rows)
   pub features : List Feature

@@ -1,5 +1,6 @@
 -- What an order does to a plain map of features.
-use Rattle.std.specs.Prelude.{ℕ, Bool, ◌&&◌, nat_le, if◌then◌else◌, List, [], map, length, slice_set, Option, Some, None, is_some}
+use Rattle.std.specs.Prelude.{ℕ, Bool, ◌&&◌, nat_le, if◌then◌else◌, List, [], map, length}
+use Rattle.std.specs.Prelude.{slice_set, Option, Some, None, is_some}
 use Rattle.std.specs.List.{flat_map}
 use Rattle.gm_base.specs.declared.code.Code.{Code}
 use Rattle.gm_base.specs.declared.code.Code.TheVariants.{E06, E13, E18, E19}
@@ -12,7 +13,8 @@ use Rattle.gm_engine_rows.specs.Exchange.{exchanged_in}
 use Rattle.gm_engine_rows.specs.State.{State, type_at, feature_at, changed_in, with_type}
 use Rattle.gm_engine_rows.specs.Rows.{rows_of}
 use Rattle.gm_script.specs.Description.{description_of}
-use Rattle.gm_script.specs.Order.{Order, Asked, asked, nothing, create, put, delete, remove, modify, query, count, explain, describe}
+use Rattle.gm_script.specs.Order.{Order, Asked, asked, nothing, create, put, delete, remove, modify}
+use Rattle.gm_script.specs.Order.{query, count, explain, describe}
 use Rattle.gm_script.specs.Reply.{row_line}
 use Rattle.gm_script.specs.declared.reply.Reply.{Reply}
 use Rattle.gm_script.specs.declared.reply.Reply.TheVariants as reply
@@ -48,13 +50,15 @@ row_of_one held = if is_some held then 1 else 0
 
 -- a further type
 abbrev pub create_step : Specification → State → Outcome
-create_step t s = record { state = with_type t s; reply = Some (reply.Created t.name); examined = 0 }
+create_step t s =
+    record { state = with_type t s; reply = Some (reply.Created t.name); examined = 0 }
 
 -- the identifier is bound to the feature
 abbrev pub put_step : ℕ → Feature → State → Outcome
 put_step n feature s =
     let held = feature_at n feature.id s in
-    changed s (changed_in n feature.id (Some feature) s) (reply.Stored feature.id (is_some held)) (row_of_one held)
+    changed s (changed_in n feature.id (Some feature) s) (reply.Stored feature.id (is_some held))
+    (row_of_one held)
 
 -- the identifier is unbound
 abbrev pub delete_step : ℕ → List ℕ → State → Outcome
@@ -81,7 +85,8 @@ planned s target None outcome = refused s E18 0
 planned s target (Some parts) outcome = if is_target target then outcome parts else refused s E19 0
 
 -- a question of a type
-abbrev pub asked_of : Option Specification → Asked → State → (Specification → List Chosen → Outcome) → Outcome
+abbrev pub asked_of : Option Specification → Asked → State
+    → (Specification → List Chosen → Outcome) → Outcome
 asked_of None a s outcome = refused s E06 0
 asked_of (Some t) a s outcome = planned s a.target (plan_of t a.wanted a.hint) (outcome t)
 
@@ -90,7 +95,8 @@ abbrev pub found : Asked → State → Specification → List Chosen → Outcome
 found a s t parts =
     let examined_rows = rows_examined t a.target (rows_of s) parts in
     let features = answer a.number a.wanted s in
-    answered s (reply.Found (flat_map row_line features) (length features) examined_rows) examined_rows
+    answered s (reply.Found (flat_map row_line features) (length features) examined_rows)
+    examined_rows
 
 abbrev pub query_step : Asked → State → Outcome
 query_step a s = asked_of (type_at a.number s) a s (found a s)

@@ -10,7 +10,8 @@ use Rattle.gm_program.specs.Limits.{IsWithinLimits}
 abbrev pub Types : Type 0
 Types = List Specification
 
--- the list of types and the table have the types and the rows of this state, which is within the limits
+-- the list of types and the table have the types and the rows of this state, which is within the
+-- limits
 pub record Holds (s : State) (types : Types) (rows : Rows) : Type 0 where
   pub state : IsState s
   pub limits : IsWithinLimits s

@@ -1,9 +1,12 @@
 -- What the words after the program's name ask for.
-use Rattle.std.specs.Prelude.{◌≡◌, ℕ, ◌-◌, ◌^◌, ◌==◌, ◌&&◌, not, nat_le, Bool, true, false, if◌then◌else◌, List, [], ◌∷◌, codes, Option, None, Some, Result, Ok, Err, ⊤}
+use Rattle.std.specs.Prelude.{◌≡◌, ℕ, ◌-◌, ◌^◌, ◌==◌, ◌&&◌, not, nat_le, Bool, true, false}
+use Rattle.std.specs.Prelude.{if◌then◌else◌, List, [], ◌∷◌, codes, Option, None, Some, Result, Ok}
+use Rattle.std.specs.Prelude.{Err, ⊤}
 use Rattle.std.specs.List.{list_all, before_first, after_first}
 use Rattle.std.specs.Char.{is_ascii_digit}
 use Rattle.std.specs.Str.Parse.{digits_value}
-use Rattle.clap.specs.Words.{App, Rule, Text, fault_of, first_of, matches_of, new_app, new_rule, with_rule}
+use Rattle.clap.specs.Words.{App, Rule, Text, fault_of, first_of, matches_of, new_app, new_rule}
+use Rattle.clap.specs.Words.{with_rule}
 use Rattle.clap.specs.Walk.{is_empty}
 use Rattle.clap.specs.Simple.{on_top}
 use Rattle.gm_program.specs.declared.options.Made.{Made}
@@ -19,7 +22,9 @@ option_rule name = record (new_rule name) { long = Some name }
 
 -- no option yet; each word is read, the first too, and there is no flag for help
 abbrev pub bare_command : App
-bare_command = on_top (λ s. record s { no_binary_name = true; disable_help_flag = true }) (new_app (codes "gm"))
+bare_command =
+    on_top (λ s. record s { no_binary_name = true; disable_help_flag = true })
+    (new_app (codes "gm"))
 
 abbrev pub gm_command : App
 gm_command = with_rule bare_command (option_rule (codes "generate"))
@@ -42,11 +47,13 @@ is_padded_text (a ∷ b ∷ bytes) = a == 48
 
 -- one digit or more, of which the first of several is not 0
 abbrev pub is_plain_number : Text → Bool
-is_plain_number bytes = not (is_empty bytes) && (list_all is_ascii_digit bytes && not (is_padded_text bytes))
+is_plain_number bytes =
+    not (is_empty bytes) && (list_all is_ascii_digit bytes && not (is_padded_text bytes))
 
 abbrev pub number_between : ℕ → ℕ → Text → Option ℕ
 number_between least most bytes =
-    if is_plain_number bytes && (nat_le least (digits_value 10 bytes) && nat_le (digits_value 10 bytes) most)
+    if is_plain_number bytes
+    && (nat_le least (digits_value 10 bytes) && nat_le (digits_value 10 bytes) most)
     then Some (digits_value 10 bytes) else None
 
 abbrev pub both : Option ℕ → Option ℕ → Option Made
@@ -74,7 +81,9 @@ options_from None = None
 options_from (Some generate) = Some (record { generate = generate })
 
 abbrev pub options_of : List Text → Option Options
-options_of words = if has_fault words then None else options_from (generate_value (value_of (codes "generate") words))
+options_of words =
+    if has_fault words then None
+    else options_from (generate_value (value_of (codes "generate") words))
 
 -- the source's script
 abbrev pub plain_options : Options

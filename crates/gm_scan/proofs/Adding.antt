@@ -30,9 +30,12 @@ or_else false true = refl
 or_else false false = refl
 
 -- there before, or equal to the new one
-pub text_added : (text other : List ℕ) (before after : Bool) → after ≡ cond (is_eq (slice_cmp nat_cmp text other)) true before → after ≡ (before || bytes_eq other text)
+pub text_added : (text other : List ℕ) (before after : Bool)
+    → after ≡ cond (is_eq (slice_cmp nat_cmp text other)) true before
+    → after ≡ (before || bytes_eq other text)
 text_added text other before after e =
-    let turned = ap is_eq (nat_list_cmp_total.antisymm text other) ∙ reversed (slice_cmp nat_cmp other text) ∙ is_eq-slice_cmp other text in
+    let turned = ap is_eq (nat_list_cmp_total.antisymm text other)
+    ∙ reversed (slice_cmp nat_cmp other text) ∙ is_eq-slice_cmp other text in
     e ∙ or_else _ before ∙ ap (λ b. before || b) turned
 
 or_false : (b : Bool) → b ≡ (b || false)
@@ -41,16 +44,30 @@ or_false false = refl
 
 -- those with other texts
 abbrev pub with_texts : SortedLiterals → Texts → SortedLiterals
-with_texts literals texts = record { numbers = literals.numbers; texts = texts; dates = literals.dates; has_true = literals.has_true; has_false = literals.has_false }
+with_texts literals texts =
+    record {
+      numbers = literals.numbers;
+      texts = texts;
+      dates = literals.dates;
+      has_true = literals.has_true;
+      has_false = literals.has_false;
+    }
 
-pub text_more : (literals : SortedLiterals) (texts : Texts) (text : List ℕ) (l : Literal) → l ≡ literal.Text text
-    → ((other : List ℕ) → has_text texts other ≡ (has_text literals.texts other || bytes_eq other text))
-    → (v : Value) → has_value (with_texts literals texts) v ≡ (has_value literals v || compares Eq v l)
-text_more literals texts text l is more v = by_kind v ∙ ap (λ k. has_value literals v || compares Eq v k) (sym is)
+pub text_more : (literals : SortedLiterals) (texts : Texts) (text : List ℕ) (l : Literal)
+    → l ≡ literal.Text text
+    → ((other : List ℕ)
+    → has_text texts other ≡ (has_text literals.texts other || bytes_eq other text))
+    → (v : Value) → has_value (with_texts literals texts) v
+    ≡ (has_value literals v || compares Eq v l)
+text_more literals texts text l is more v =
+    by_kind v ∙ ap (λ k. has_value literals v || compares Eq v k) (sym is)
   where
-    by_kind : (v : Value) → has_value (with_texts literals texts) v ≡ (has_value literals v || compares Eq v (literal.Text text))
+    by_kind : (v : Value)
+        → has_value (with_texts literals texts) v
+        ≡ (has_value literals v || compares Eq v (literal.Text text))
     by_kind value.Null = refl
-    by_kind (value.Text other) = more other ∙ ap (λ b. has_text literals.texts other || b) (sym (is_eq-slice_cmp other text))
+    by_kind (value.Text other) =
+        more other ∙ ap (λ b. has_text literals.texts other || b) (sym (is_eq-slice_cmp other text))
     by_kind (value.Integer number) = or_false _
     by_kind (value.Long number) = or_false _
     by_kind (value.Boolean truth) = or_false _

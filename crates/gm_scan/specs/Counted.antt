@@ -13,10 +13,12 @@ abbrev pub raised : Bool → ℕ → ℕ
 raised matches number = if matches then capped_sum number 1 else number
 
 -- one row more: it counts where the filter is true of its feature
-pub record Takes (before : Counted) (bytes : List ℕ) (answer : Result ⊤ NoMemory) (after : Counted) : Type 0 where
+pub record Takes (before : Counted) (bytes : List ℕ) (answer : Result ⊤ NoMemory)
+    (after : Counted) : Type 0 where
   pub same : after.trial.now ≡ before.trial.now
   pub counts : (feature : Feature) → AreBytesOf (type_of before.trial.now) bytes feature
-      → OnOk answer (after.matched ≡ raised (is_true feature (filter_of before.trial.now)) before.matched)
+      → OnOk answer (after.matched
+      ≡ raised (is_true feature (filter_of before.trial.now)) before.matched)
 
 abbrev pub takes_row : Counted → List ℕ → List ℕ → Result ⊤ NoMemory → Counted → Type 0
 takes_row before key bytes answer after = Takes before bytes answer after

@@ -1,5 +1,6 @@
 -- The filter that a test stands for.
-use Rattle.gm_filter.specs.Tree.{Tree, negated, all, any, one_of, ids, intersects, disjoint, within, trees_of, tree}
+use Rattle.gm_filter.specs.Tree.{Tree, negated, all, any, one_of, ids, intersects, disjoint, within}
+use Rattle.gm_filter.specs.Tree.{trees_of, tree}
 use Rattle.gm_scan.specs.declared.test.Test.{Test}
 use Rattle.gm_scan.specs.declared.test.Test.TheOpen as open_test
 use Rattle.gm_scan.specs.declared.test.Test.TheFolds.{fold-Test}

@@ -7,7 +7,8 @@ use Rattle.gm_types.specs.declared.index.IndexKind.{IndexKind}
 use Rattle.gm_types.specs.declared.index.IndexKind.TheVariants.{Id, Z2, Z3, Xz2, Xz3, Attr}
 use Rattle.gm_types.specs.Index.{enabled_indexes, index_name}
 use Rattle.gm_types.specs.Spelling.{canonical_text}
-use Rattle.gm_types.specs.Specification.{Specification, period_of, shards_of, precision_of, z2_bits_of, z3_bits_of}
+use Rattle.gm_types.specs.Specification.{Specification, period_of, shards_of, precision_of}
+use Rattle.gm_types.specs.Specification.{z2_bits_of, z3_bits_of}
 
 abbrev pub period_name : Period → List ℕ
 period_name Day = codes "day"

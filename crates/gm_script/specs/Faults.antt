@@ -1,5 +1,6 @@
 -- The codes of faulty rows and filters.
-use Rattle.gm_base.specs.declared.code.Code.TheVariants.{E08, E09, E10, E11, E12, E14, E15, E16, E19}
+use Rattle.gm_base.specs.declared.code.Code.TheVariants.{E08, E09, E10, E11, E12, E14, E15, E16}
+use Rattle.gm_base.specs.declared.code.Code.TheVariants.{E19}
 use Rattle.gm_rows.specs.declared.fault.RowFault.{RowFault}
 use Rattle.gm_rows.specs.declared.fault.RowFault.TheVariants as row
 use Rattle.gm_ecql.specs.declared.fault.FilterFault.{FilterFault}

@@ -1,5 +1,6 @@
 -- Lines that are laid end to end from their words, with blanks between them.
-use Rattle.std.specs.Prelude.{◌≡◌, ◌⊎◌, ℕ, ◌<◌, ◌≤◌, nat_eq, true, false, List, [], ◌∷◌, ◌++◌, length, codes, slice_get, Option, Some, None}
+use Rattle.std.specs.Prelude.{◌≡◌, ◌⊎◌, ℕ, ◌<◌, ◌≤◌, nat_eq, true, false, List, [], ◌∷◌, ◌++◌}
+use Rattle.std.specs.Prelude.{length, codes, slice_get, Option, Some, None}
 use Rattle.std.specs.List.{ends_with}
 use Rattle.std.specs.Str.{is_utf8}
 use Rattle.gm_types.specs.Specification.{Specification}
@@ -8,7 +9,8 @@ use Rattle.gm_types.specs.Words.{is_name}
 use Rattle.gm_script.specs.Ask.{has_option, target_of}
 use Rattle.gm_script.specs.Order.{Asked, Order}
 use Rattle.gm_script.specs.Order as order
-use Rattle.gm_script.specs.Words.{AreBlanks, are_no_blanks, is_word, begins_without_blank, is_nothing}
+use Rattle.gm_script.specs.Words.{AreBlanks, are_no_blanks, is_word, begins_without_blank}
+use Rattle.gm_script.specs.Words.{is_nothing}
 
 -- blanks, one at least
 pub record IsGap (gap : List ℕ) : Type 0 where

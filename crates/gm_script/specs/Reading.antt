@@ -1,8 +1,11 @@
 -- Which order a line is, for the types that there are, or why it is refused.
-use Rattle.std.specs.Prelude.{◌≡◌, ℕ, ◌||◌, ◌&&◌, nat_lt, not, if◌then◌else◌, List, length, codes, slice_get, Option, Some, None, is_some, option_map, option_and_then, Result, Ok, Err}
+use Rattle.std.specs.Prelude.{◌≡◌, ℕ, ◌||◌, ◌&&◌, nat_lt, not, if◌then◌else◌, List, length, codes}
+use Rattle.std.specs.Prelude.{slice_get, Option, Some, None, is_some, option_map, option_and_then}
+use Rattle.std.specs.Prelude.{Result, Ok, Err}
 use Rattle.std.specs.Str.{is_utf8}
 use Rattle.gm_base.specs.declared.code.Code.{Code}
-use Rattle.gm_base.specs.declared.code.Code.TheVariants.{E01, E02, E03, E04, E05, E06, E07, E11, E12, E17, E19}
+use Rattle.gm_base.specs.declared.code.Code.TheVariants.{E01, E02, E03, E04, E05, E06, E07, E11}
+use Rattle.gm_base.specs.declared.code.Code.TheVariants.{E12, E17, E19}
 use Rattle.gm_base.specs.Identifier.{is_identifier}
 use Rattle.gm_types.specs.declared.index.IndexKind.{IndexKind}
 use Rattle.gm_types.specs.Reading.{specification_of}

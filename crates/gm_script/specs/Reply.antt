@@ -1,5 +1,6 @@
 -- The bytes of a reply.
-use Rattle.std.specs.Prelude.{ℕ, Bool, true, false, List, [], ◌∷◌, ◌++◌, length, Option, Some, None, codes}
+use Rattle.std.specs.Prelude.{ℕ, Bool, true, false, List, [], ◌∷◌, ◌++◌, length, Option, Some, None}
+use Rattle.std.specs.Prelude.{codes}
 use Rattle.std.specs.Fmt.{decimal}
 use Rattle.std.specs.List.{flat_map}
 use Rattle.gm_base.specs.declared.code.Code.{Code}
@@ -7,7 +8,9 @@ use Rattle.gm_base.specs.Code.{code_name, code_phrase}
 use Rattle.gm_feature.specs.declared.feature.Feature.{Feature}
 use Rattle.gm_rows.specs.Printing.{row_text}
 use Rattle.gm_script.specs.declared.reply.Reply.{Reply}
-use Rattle.gm_script.specs.declared.reply.Reply.TheVariants.{Created, Stored, Deleted, Removed, Modified, Found, Counted, Explained, Described, Refusal}
+use Rattle.gm_script.specs.declared.reply.Reply.TheVariants.{Created, Stored, Deleted, Removed}
+use Rattle.gm_script.specs.declared.reply.Reply.TheVariants.{Modified, Found, Counted, Explained}
+use Rattle.gm_script.specs.declared.reply.Reply.TheVariants.{Described, Refusal}
 
 -- a line of its own
 abbrev pub line_of : List ℕ → List ℕ

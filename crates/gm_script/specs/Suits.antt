@@ -1,5 +1,6 @@
 -- What every order that is read from a line has, so that it can be done.
-use Rattle.std.specs.Prelude.{◌≡◌, ℕ, ◌<◌, true, List, length, slice_get, Option, Some, None, Result, IfOk}
+use Rattle.std.specs.Prelude.{◌≡◌, ℕ, ◌<◌, true, List, length, slice_get, Option, Some, None}
+use Rattle.std.specs.Prelude.{Result, IfOk}
 use Rattle.gm_base.specs.Identifier.{is_identifier}
 use Rattle.gm_types.specs.declared.index.IndexKind.{IndexKind}
 use Rattle.gm_types.specs.FeatureType.{IsType}

@@ -1,5 +1,6 @@
 -- What has been taken of a level's pieces.
-use Rattle.std.specs.Prelude.{◌≡◌, ◌≤◌, ◌<◌, ◌⊎◌, ◌↔◌, ℕ, suc, ◌+◌, ◌*◌, Bool, true, false, cond, eqb, Option, Some, None, List, [], ◌∷◌, ◌++◌, option_to_list, All}
+use Rattle.std.specs.Prelude.{◌≡◌, ◌≤◌, ◌<◌, ◌⊎◌, ◌↔◌, ℕ, suc, ◌+◌, ◌*◌, Bool, true, false, cond}
+use Rattle.std.specs.Prelude.{eqb, Option, Some, None, List, [], ◌∷◌, ◌++◌, option_to_list, All}
 use Rattle.gm_trees.specs.declared.node.Node.{Node}
 use Rattle.gm_trees.specs.declared.window.Window.{Window}
 use Rattle.gm_trees.specs.Tree.{Shape}
@@ -15,7 +16,8 @@ use Rattle.gm_split.specs.Opening.{piece_of, ends, partials, opened_all, Covers,
 -- these codes before pieces, one with the first of them where that follows at once
 abbrev pub codes_before : ℕ → ℕ → List Piece → List Piece
 codes_before low high [] = Codes low high ∷ []
-codes_before low high (Codes first last ∷ ps) = cond (eqb (suc high) first) (Codes low last ∷ ps) (Codes low high ∷ Codes first last ∷ ps)
+codes_before low high (Codes first last ∷ ps) =
+    cond (eqb (suc high) first) (Codes low last ∷ ps) (Codes low high ∷ Codes first last ∷ ps)
 codes_before low high (Partial n near ∷ ps) = Codes low high ∷ Partial n near ∷ ps
 
 abbrev pub joined : List Piece → List Piece
@@ -53,7 +55,8 @@ begins tail low = cond (follows (last_of tail) low) 0 1
 -- how many runs pieces begin behind a last code
 abbrev pub runs_behind : Shape → Option ℕ → List Piece → ℕ
 runs_behind s last [] = 0
-runs_behind s last (p ∷ ps) = cond (follows last (ends s p).0) 0 1 + runs_behind s (Some (ends s p).1) ps
+runs_behind s last (p ∷ ps) =
+    cond (follows last (ends s p).0) 0 1 + runs_behind s (Some (ends s p).1) ps
 
 -- the last code behind them
 abbrev pub last_behind : Shape → Option ℕ → List Piece → Option ℕ
@@ -62,24 +65,32 @@ last_behind s last (p ∷ ps) = last_behind s (Some (ends s p).1) ps
 
 -- the pieces that were taken, joined, and how many runs and partial nodes they have
 pub record HasTaken (s : Shape) (done : List Piece) (front : Front) : Type 0 where
-  pub joined : (rest : List Piece) → front.pieces.items ++ joined_after (growing_of front.tail) rest ≡ joined (done ++ rest)
+  pub joined : (rest : List Piece)
+      → front.pieces.items ++ joined_after (growing_of front.tail) rest ≡ joined (done ++ rest)
   pub last : last_of front.tail ≡ last_behind s None done
   pub runs : front.runs ≡ runs_behind s None done
   pub partial : front.partial ≡ partials done
 
 -- these pieces were taken besides
 pub record Takes (s : Shape) (ps : List Piece) (before after : Front) : Type 0 where
-  pub joined : (rest : List Piece) → after.pieces.items ++ joined_after (growing_of after.tail) rest ≡ before.pieces.items ++ joined_after (growing_of before.tail) (ps ++ rest)
+  pub joined : (rest : List Piece)
+      → after.pieces.items ++ joined_after (growing_of after.tail) rest
+      ≡ before.pieces.items ++ joined_after (growing_of before.tail) (ps ++ rest)
   pub last : last_of after.tail ≡ last_behind s (last_of before.tail) ps
   pub runs : after.runs ≡ before.runs + runs_behind s (last_of before.tail) ps
   pub partial : after.partial ≡ before.partial + partials ps
 
--- the next level: its pieces, joined, and its partial nodes counted; or it has too many runs or partial nodes
+-- the next level: its pieces, joined, and its partial nodes counted; or it has too many runs or
+-- partial nodes
 abbrev pub HasNext : ℕ → Shape → List Window → ℕ → List Piece → Front → Bool → Type 0
 HasNext D s ws target ps next true =
-    (next.pieces.items ≡ joined (opened_all D s ws ps)) × (runs_behind s None (opened_all D s ws ps) ≤ target)
-    × (next.partial ≡ partials (opened_all D s ws ps)) × (partials (opened_all D s ws ps) ≤ 4 * target)
-HasNext D s ws target ps next false = (target < runs_behind s None (opened_all D s ws ps)) ⊎ (4 * target < partials (opened_all D s ws ps))
+    (next.pieces.items ≡ joined (opened_all D s ws ps))
+    × (runs_behind s None (opened_all D s ws ps) ≤ target)
+    × (next.partial ≡ partials (opened_all D s ws ps))
+    × (partials (opened_all D s ws ps) ≤ 4 * target)
+HasNext D s ws target ps next false =
+    (target < runs_behind s None (opened_all D s ws ps))
+    ⊎ (4 * target < partials (opened_all D s ws ps))
 
 -- the first level: what stands of the root, and its partial nodes counted
 pub record HasFirst (D : ℕ) (s : Shape) (ws : List Window) (front : Front) : Type 0 where
@@ -87,7 +98,8 @@ pub record HasFirst (D : ℕ) (s : Shape) (ws : List Window) (front : Front) : T
   pub partial : front.partial ≡ partials (option_to_list (piece_of D s ws s.root))
 
 -- the stop level, and pieces that have its level set
-pub record IsStopAt (D : ℕ) (s : Shape) (ws : List Window) (Comes : Node → Type 0) (target l : ℕ) (ps : List Piece) : Type 0 where
+pub record IsStopAt (D : ℕ) (s : Shape) (ws : List Window) (Comes : Node → Type 0) (target l : ℕ)
+    (ps : List Piece) : Type 0 where
   pub stop : IsStop D s ws target l
   pub covers : (c : ℕ) → Covers s ps c ↔ InLevelSet D s ws l c
   pub rise : All (λ p. (ends s p).0 ≤ (ends s p).1) ps

@@ -1,17 +1,21 @@
 -- The level sets of a tree, its partial nodes, and the level at which a decomposition stops.
-use Rattle.std.specs.Prelude.{◌≡◌, ◌<◌, ◌≤◌, ◌⊎◌, ℕ, zero, suc, ◌+◌, ◌*◌, ◌^◌, true, cond, Some, List, length, take}
+use Rattle.std.specs.Prelude.{◌≡◌, ◌<◌, ◌≤◌, ◌⊎◌, ℕ, zero, suc, ◌+◌, ◌*◌, ◌^◌, true, cond, Some}
+use Rattle.std.specs.Prelude.{List, length, take}
 use Rattle.gm_trees.specs.declared.node.Node.{Node}
 use Rattle.gm_trees.specs.declared.window.Window.{Window}
 use Rattle.gm_trees.specs.Tree.{Shape, HasCode, walk, AreChildNumbers}
 use Rattle.gm_runs.specs.Runs.{AreMaximalRuns}
 use Rattle.gm_split.specs.Windows.{meets, is_partial}
 
--- the path leads from n to the stem of a code l levels further down: to the node whose own code it is, where that is nearer, and otherwise to the node there that has the code
+-- the path leads from n to the stem of a code l levels further down: to the node whose own code it
+-- is, where that is nearer, and otherwise to the node there that has the code
 pub record IsStem (D : ℕ) (s : Shape) (n : Node) (l c : ℕ) (path : List ℕ) : Type 0 where
   pub members : AreChildNumbers D path
-  pub stands : ((length path ≡ l) × HasCode s (walk s n path) c) ⊎ ((length path < l) × (s.own (walk s n path) ≡ Some c))
+  pub stands : ((length path ≡ l) × HasCode s (walk s n path) c)
+      ⊎ ((length path < l) × (s.own (walk s n path) ≡ Some c))
 
--- the node of a code: the node whose own code it is, and where none has it as its own, the node of the deepest level that has it
+-- the node of a code: the node whose own code it is, and where none has it as its own, the node of
+-- the deepest level that has it
 abbrev pub IsNodeOfCode : ℕ → Shape → ℕ → List ℕ → Type 0
 IsNodeOfCode D s c path = IsStem D s s.root s.depth c path
 
@@ -23,7 +27,9 @@ pub record IsOneStem (D : ℕ) (s : Shape) (l c : ℕ) (path : List ℕ) : Type 
 
 -- a code is in the level set of a level where the reach of its stem overlaps a window
 abbrev pub InLevelSet : ℕ → Shape → List Window → ℕ → ℕ → Type 0
-InLevelSet D s ws l c = (path : List ℕ) × IsStem D s s.root l c path × (meets D ws (s.reach (walk s s.root path)) ≡ true)
+InLevelSet D s ws l c =
+    (path : List ℕ) × IsStem D s s.root l c path
+    × (meets D ws (s.reach (walk s s.root path)) ≡ true)
 
 -- the sum of f over the numbers below n
 abbrev pub sum_below : ℕ → (ℕ → ℕ) → ℕ

@@ -1,5 +1,6 @@
 -- The pieces of a level: codes that are settled, and partial nodes.
-use Rattle.std.specs.Prelude.{◌≡◌, ◌≤◌, ◌⊎◌, ℕ, zero, suc, ◌+◌, ◌^◌, true, cond, Option, Some, None, List, [], ◌∷◌, ◌++◌, option_to_list}
+use Rattle.std.specs.Prelude.{◌≡◌, ◌≤◌, ◌⊎◌, ℕ, zero, suc, ◌+◌, ◌^◌, true, cond, Option, Some, None}
+use Rattle.std.specs.Prelude.{List, [], ◌∷◌, ◌++◌, option_to_list}
 use Rattle.gm_trees.specs.declared.node.Node.{Node}
 use Rattle.gm_trees.specs.declared.window.Window.{Window}
 use Rattle.gm_trees.specs.Tree.{Shape}
@@ -10,7 +11,9 @@ use Rattle.gm_split.specs.Windows.{meets, is_inside, is_partial}
 
 -- what stands of a node: nothing, all its codes, or itself
 abbrev pub piece_of : ℕ → Shape → List Window → Node → Option Piece
-piece_of D s ws n = cond (is_inside D ws (s.reach n)) (Some (Codes n.first (s.last n))) (cond (meets D ws (s.reach n)) (Some (Partial n (near_of D ws (s.reach n)))) None)
+piece_of D s ws n =
+    cond (is_inside D ws (s.reach n)) (Some (Codes n.first (s.last n)))
+    (cond (meets D ws (s.reach n)) (Some (Partial n (near_of D ws (s.reach n)))) None)
 
 abbrev pub own_pieces : Option ℕ → List Piece
 own_pieces None = []
@@ -19,7 +22,8 @@ own_pieces (Some c) = Codes c c ∷ []
 -- what stands of the children below q
 abbrev pub child_pieces : ℕ → Shape → List Window → Node → ℕ → List Piece
 child_pieces D s ws n zero = []
-child_pieces D s ws n (suc q) = child_pieces D s ws n q ++ option_to_list (piece_of D s ws (s.child n q))
+child_pieces D s ws n (suc q) =
+    child_pieces D s ws n q ++ option_to_list (piece_of D s ws (s.child n q))
 
 abbrev pub opened : ℕ → Shape → List Window → Node → List Piece
 opened D s ws n = own_pieces (s.own n) ++ child_pieces D s ws n (2 ^ D)
@@ -55,7 +59,9 @@ Covers s (p ∷ ps) c = (((ends s p).0 ≤ c) × (c ≤ (ends s p).1)) ⊎ Cover
 -- a piece at a level
 abbrev pub IsPieceAt : ℕ → Shape → (Node → Type 0) → List Window → ℕ → Piece → Type 0
 IsPieceAt D s Comes ws l (Codes low high) = low ≤ high
-IsPieceAt D s Comes ws l (Partial n near) = Comes n × (n.level ≡ l) × (is_partial D ws (s.reach n) ≡ true) × (near ≡ near_of D ws (s.reach n))
+IsPieceAt D s Comes ws l (Partial n near) =
+    Comes n × (n.level ≡ l) × (is_partial D ws (s.reach n) ≡ true)
+    × (near ≡ near_of D ws (s.reach n))
 
 -- a partial node comes from the root
 abbrev pub IsComing : (Node → Type 0) → Piece → Type 0

@@ -1,5 +1,6 @@
 -- What the branches of a filter say of it.
-use Rattle.std.proofs.Common.{◌≡◌, ◌≤◌, Bool, true, false, ◌||◌, [], ◌∷◌, length, refl, sym, ◌∙◌, arith, length-append}
+use Rattle.std.proofs.Common.{◌≡◌, ◌≤◌, Bool, true, false, ◌||◌, [], ◌∷◌, length, refl, sym, ◌∙◌}
+use Rattle.std.proofs.Common.{arith, length-append}
 use Rattle.std.proofs.lemmas.Bool.{and_parts, and_from}
 use Rattle.std.proofs.lemmas.List.Folds.{list_any-append, list_all-append}
 use Rattle.std.specs.List.{list_all, list_any}
@@ -7,7 +8,9 @@ use Rattle.std.specs.Prelude.{nat_le}
 use Rattle.gm_types.specs.Specification.{Specification}
 use Rattle.gm_feature.specs.declared.feature.Feature.{Feature}
 use Rattle.gm_filter.specs.Suits.{Suits, suits, all_suit}
-use Rattle.gm_filter.specs.Tree.{Tree, Trees, include, exclude, negated, all, any, compare, between, like, one_of, is_null, ids, bbox, intersects, disjoint, within, during, before, after, tequals, no_trees, tree_and, members_of}
+use Rattle.gm_filter.specs.Tree.{Tree, Trees, include, exclude, negated, all, any, compare, between}
+use Rattle.gm_filter.specs.Tree.{like, one_of, is_null, ids, bbox, intersects, disjoint, within}
+use Rattle.gm_filter.specs.Tree.{during, before, after, tequals, no_trees, tree_and, members_of}
 use Rattle.gm_filter.specs.Truth.{is_true}
 use Rattle.gm_strategy.specs.Branches.{branches_of, branches_in}
 
@@ -17,7 +20,8 @@ pub alone : (b : Bool) → b ≡ (b || false)
 alone true = refl
 alone false = refl
 
-module _ (f : Feature) (either : (ts : Trees) → is_true f (any ts) ≡ list_any (is_true f) (members_of ts)) where
+module _ (f : Feature)
+    (either : (ts : Trees) → is_true f (any ts) ≡ list_any (is_true f) (members_of ts)) where
   mutual
     pub branches_decide : (t : Tree) → is_true f t ≡ list_any (is_true f) (branches_of t)
     branches_decide (any ts) = either ts ∙ members_decide ts
@@ -40,10 +44,12 @@ module _ (f : Feature) (either : (ts : Trees) → is_true f (any ts) ≡ list_an
     branches_decide (after a at) = alone _
     branches_decide (tequals a at) = alone _
 
-    members_decide : (ts : Trees) → list_any (is_true f) (members_of ts) ≡ list_any (is_true f) (branches_in ts)
+    members_decide : (ts : Trees)
+        → list_any (is_true f) (members_of ts) ≡ list_any (is_true f) (branches_in ts)
     members_decide no_trees = refl
     members_decide (tree_and t ts) =
-        (λ i. branches_decide t i || members_decide ts i) ∙ sym (list_any-append (is_true f) (branches_of t) (branches_in ts))
+        (λ i. branches_decide t i || members_decide ts i)
+        ∙ sym (list_any-append (is_true f) (branches_of t) (branches_in ts))
 
 -- ---- each suits, and there is one
 
@@ -53,7 +59,8 @@ module _ (s : Specification) where
 
   mutual
     pub branches_suit : (t : Tree) → Suits s t → list_all (suits s) (branches_of t) ≡ true
-    branches_suit (any ts) h = members_suit ts (and_parts (nat_le 2 (length (members_of ts))) (all_suit s ts) h).1
+    branches_suit (any ts) h =
+        members_suit ts (and_parts (nat_le 2 (length (members_of ts))) (all_suit s ts) h).1
     branches_suit include h = only include h
     branches_suit exclude h = only exclude h
     branches_suit (negated t) h = only (negated t) h
@@ -78,12 +85,15 @@ module _ (s : Specification) where
     members_suit (tree_and t ts) h =
         let parts = and_parts (suits s t) (all_suit s ts) h in
         list_all-append (suits s) (branches_of t) (branches_in ts)
-        ∙ and_from (list_all (suits s) (branches_of t)) _ (branches_suit t parts.0) (members_suit ts parts.1)
+        ∙ and_from (list_all (suits s) (branches_of t)) _ (branches_suit t parts.0)
+        (members_suit ts parts.1)
 
   pub some_branch : (t : Tree) → Suits s t → 1 ≤ length (branches_of t)
   some_branch (any no_trees) h = absurd (cc)
   some_branch (any (tree_and t ts)) h =
-      let parts = and_parts (suits s t) (all_suit s ts) (and_parts (nat_le 2 (length (members_of (tree_and t ts)))) (all_suit s (tree_and t ts)) h).1 in
+      let parts = and_parts (suits s t) (all_suit s ts)
+      (and_parts (nat_le 2 (length (members_of (tree_and t ts))))
+      (all_suit s (tree_and t ts)) h).1 in
       let first = some_branch t parts.0 in
       omega (arith, first, length-append (branches_of t) (branches_in ts))
   some_branch include h = omega arith

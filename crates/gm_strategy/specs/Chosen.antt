@@ -1,5 +1,6 @@
 -- What is chosen for a filter.
-use Rattle.std.specs.Prelude.{◌≡◌, ◌+◌, ◌≤◌, ◌++◌, ◌∷◌, true, ℕ, nat_lt, if◌then◌else◌, fold, List, All, Option, Some, None, IfSome}
+use Rattle.std.specs.Prelude.{◌≡◌, ◌+◌, ◌≤◌, ◌++◌, ◌∷◌, true, ℕ, nat_lt, if◌then◌else◌, fold, List}
+use Rattle.std.specs.Prelude.{All, Option, Some, None, IfSome}
 use Rattle.gm_types.specs.declared.index.IndexKind.{IndexKind}
 use Rattle.gm_types.specs.declared.index.IndexKind.TheVariants.{Id}
 use Rattle.gm_types.specs.Index.{enabled_indexes}

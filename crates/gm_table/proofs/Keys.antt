@@ -7,8 +7,10 @@ use Rattle.std.specs.BTreeMap.{is_at}
 use Rattle.std.specs.FinMap.{slice_cmp-IsAntisymmetric, nat_cmp-IsAntisymmetric}
 
 -- it does not matter which key is asked for
-pub turned : (key other : List ℕ) → is_at (slice_cmp nat_cmp key) other ≡ is_at (slice_cmp nat_cmp other) key
+pub turned : (key other : List ℕ)
+    → is_at (slice_cmp nat_cmp key) other ≡ is_at (slice_cmp nat_cmp other) key
 turned = (eq_by_cmp_equiv nat_list_cmp_total).symm
 
 pub same_key : (key other : List ℕ) → is_at (slice_cmp nat_cmp key) other ≡ true → key ≡ other
-same_key key other same = slice_cmp-IsAntisymmetric nat_cmp-IsAntisymmetric key other ((Equal-is _).0 same)
+same_key key other same =
+    slice_cmp-IsAntisymmetric nat_cmp-IsAntisymmetric key other ((Equal-is _).0 same)

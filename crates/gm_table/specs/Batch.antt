@@ -1,5 +1,6 @@
 -- What a batch makes of a table's rows.
-use Rattle.std.specs.Prelude.{ℕ, Bool, true, not, ◌&&◌, List, [], ◌∷◌, Option, Some, None, if◌then◌else◌}
+use Rattle.std.specs.Prelude.{ℕ, Bool, true, not, ◌&&◌, List, [], ◌∷◌, Option, Some, None}
+use Rattle.std.specs.Prelude.{if◌then◌else◌}
 use Rattle.std.specs.List.{list_any}
 use Rattle.std.specs.Ordering.{nat_cmp}
 use Rattle.std.specs.Cmp.Lexicographic.{slice_cmp}
@@ -15,10 +16,12 @@ abbrev pub are_distinct : List (List ℕ) → Bool
 are_distinct [] = true
 are_distinct (key ∷ keys) = not (has_key key keys) && are_distinct keys
 
--- what a key has where these rows are put in, and it had `before`: the bytes of its row, and else what it had
+-- what a key has where these rows are put in, and it had `before`: the bytes of its row, and else
+-- what it had
 abbrev pub put_at : List ℕ → List Row → Option (List ℕ) → Option (List ℕ)
 put_at key [] before = before
-put_at key (put ∷ puts) before = put_at key puts (if is_at (slice_cmp nat_cmp key) put.key then Some put.bytes else before)
+put_at key (put ∷ puts) before =
+    put_at key puts (if is_at (slice_cmp nat_cmp key) put.key then Some put.bytes else before)
 
 -- what a key has after a batch: nothing where it is removed, and else what the puts make of it
 abbrev pub applied_at : List ℕ → List (List ℕ) → List Row → Option (List ℕ) → Option (List ℕ)

@@ -1,5 +1,6 @@
 -- Rows in blocks.
-use Rattle.std.specs.Prelude.{◌≡◌, ℕ, ◌<◌, ◌≤◌, zero, suc, List, [], ◌∷◌, ◌++◌, length, take, drop, map, slice_index_or}
+use Rattle.std.specs.Prelude.{◌≡◌, ℕ, ◌<◌, ◌≤◌, zero, suc, List, [], ◌∷◌, ◌++◌, length, take, drop}
+use Rattle.std.specs.Prelude.{map, slice_index_or}
 use Rattle.std.specs.declared.cmp.Ordering.TheVariants.{Less}
 use Rattle.std.specs.Cmp.Lexicographic.{slice_cmp}
 use Rattle.std.specs.List.{AllByRecursion}
@@ -49,7 +50,8 @@ AreBytes-prop (suc n) bytes = ×_prop le_prop (AreBytes-prop n (rest_of bytes))
 
 pub IsBlock-prop : (block : Block) → IsProp (IsBlock block)
 IsBlock-prop block p q = λ i. record {
-  sized = record { some = le_prop p.sized.some q.sized.some i; few = le_prop p.sized.few q.sized.few i };
+  sized = record
+      { some = le_prop p.sized.some q.sized.some i; few = le_prop p.sized.few q.sized.few i };
   front = record {
     front = Coded-set coded_ℕ _ _ p.front.front q.front.front i;
     are_bytes = AreBytes-prop 16 (first_key block.rows) p.front.are_bytes q.front.are_bytes i;
@@ -87,7 +89,8 @@ pub record IsAtKey (blocks : List Block) (key : List ℕ) (n row : ℕ) : Type 0
 pub record IsRowAt (key : List ℕ) (n row : ℕ) (blocks : List Block) : Type 0 where
   pub within : n < length blocks
   pub inside : (d : Block) → row < length (slice_index_or blocks n d).rows
-  pub has : (d : Block) (e : Row) → key ≡ (slice_index_or (slice_index_or blocks n d).rows row e).key
+  pub has : (d : Block) (e : Row)
+      → key ≡ (slice_index_or (slice_index_or blocks n d).rows row e).key
 
 -- all keys of the first rows are below the key, and all of the others above it
 pub record IsGap (key : List ℕ) (before after : Rows) : Type 0 where

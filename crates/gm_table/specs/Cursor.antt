@@ -1,5 +1,6 @@
 -- Places in the rows of a map.
-use Rattle.std.specs.Prelude.{◌≡◌, ℕ, List, [], ◌∷◌, ◌++◌, Option, Some, None, filter, if◌then◌else◌, true, ⊤}
+use Rattle.std.specs.Prelude.{◌≡◌, ℕ, List, [], ◌∷◌, ◌++◌, Option, Some, None, filter}
+use Rattle.std.specs.Prelude.{if◌then◌else◌, true, ⊤}
 use Rattle.std.specs.Ordering.{nat_cmp, is_le}
 use Rattle.std.specs.Cmp.Lexicographic.{slice_cmp}
 use denote.Ref.{Bor}
@@ -13,12 +14,14 @@ rows_from low rows = filter (λ row. is_le (slice_cmp nat_cmp low row.0)) rows
 -- the first rows, up to one at the key or after it
 abbrev pub rows_below : List ℕ → Rows → Rows
 rows_below high [] = []
-rows_below high (row ∷ rows) = if is_le (slice_cmp nat_cmp high row.0) then [] else row ∷ rows_below high rows
+rows_below high (row ∷ rows) =
+    if is_le (slice_cmp nat_cmp high row.0) then [] else row ∷ rows_below high rows
 
 -- the others
 abbrev pub rows_after : List ℕ → Rows → Rows
 rows_after high [] = []
-rows_after high (row ∷ rows) = if is_le (slice_cmp nat_cmp high row.0) then row ∷ rows else rows_after high rows
+rows_after high (row ∷ rows) =
+    if is_le (slice_cmp nat_cmp high row.0) then row ∷ rows else rows_after high rows
 
 -- a first row, where there is one, and the rest
 abbrev pub pending : Option (Bor (List ℕ) × Bor (List ℕ)) → Rows → Rows

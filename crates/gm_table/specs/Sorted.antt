@@ -28,7 +28,8 @@ at_key key rows = lookup (is_at (slice_cmp nat_cmp key)) rows
 
 -- low <= key < high
 abbrev pub is_within : List ℕ → List ℕ → List ℕ → Bool
-is_within low high key = is_le (slice_cmp nat_cmp low key) && not (is_le (slice_cmp nat_cmp high key))
+is_within low high key =
+    is_le (slice_cmp nat_cmp low key) && not (is_le (slice_cmp nat_cmp high key))
 
 -- the rows whose keys are within
 abbrev pub between : List ℕ → List ℕ → Rows → Rows

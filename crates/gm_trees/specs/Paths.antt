@@ -1,10 +1,12 @@
 -- What a path of child numbers says of the node at its end.
-use Rattle.std.specs.Prelude.{◌≡◌, ◌<◌, ℕ, ◌+◌, ◌*◌, ◌^◌, List, [], ◌∷◌, ◌++◌, length, slice_index, All}
+use Rattle.std.specs.Prelude.{◌≡◌, ◌<◌, ℕ, ◌+◌, ◌*◌, ◌^◌, List, [], ◌∷◌, ◌++◌, length, slice_index}
+use Rattle.std.specs.Prelude.{All}
 use Rattle.std.specs.Int.{bit_at}
 use Rattle.gm_trees.specs.declared.node.Node.{Node}
 use Rattle.gm_trees.specs.declared.window.Node3.{Node3}
 
--- the number whose highest bits are those of a, and whose bits below are the bits d of the members, the first highest
+-- the number whose highest bits are those of a, and whose bits below are the bits d of the members,
+-- the first highest
 abbrev pub index_by_bits : ℕ → ℕ → List ℕ → ℕ
 index_by_bits d a [] = a
 index_by_bits d a (q ∷ qs) = index_by_bits d (2 * a + bit_at q d) qs

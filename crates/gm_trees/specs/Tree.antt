@@ -56,10 +56,12 @@ IsNotPast D a b = (a.x ≤ b.x) × (a.y ≤ b.y) × (D ≡ 3 → a.t ≤ b.t)
 -- the laws, of the nodes that come from the root
 pub record IsTree (D : ℕ) (s : Shape) (Comes : Node → Type 0) : Type 0 where
   pub root_comes : Comes s.root
-  pub child_comes : (n : Node) (q : ℕ) → Comes n → n.level < s.depth → q < 2 ^ D → Comes (s.child n q)
+  pub child_comes : (n : Node) (q : ℕ) → Comes n → n.level < s.depth → q < 2 ^ D
+      → Comes (s.child n q)
   pub by_path : (n : Node) → Comes n → (path : List ℕ) × LeadsTo D s n path
   pub root_level : s.root.level ≡ 0
-  pub child_level : (n : Node) (q : ℕ) → Comes n → n.level < s.depth → q < 2 ^ D → (s.child n q).level ≡ n.level + 1
+  pub child_level : (n : Node) (q : ℕ) → Comes n → n.level < s.depth → q < 2 ^ D
+      → (s.child n q).level ≡ n.level + 1
   pub within_depth : (n : Node) → Comes n → n.level ≤ s.depth
   pub root_has : (n : Node) (c : ℕ) → Comes n → HasCode s n c → HasCode s s.root c
   pub some_code : (n : Node) → Comes n → n.first ≤ s.last n
@@ -67,5 +69,7 @@ pub record IsTree (D : ℕ) (s : Shape) (Comes : Node → Type 0) : Type 0 where
   pub leaf : (n : Node) → Comes n → n.level ≡ s.depth → n.first ≡ s.last n
   pub leaf_own : (n : Node) → Comes n → n.level ≡ s.depth → IsOwnFirst (s.own n) n.first
   pub rising : (n : Node) → Comes n → IsNotPast D (s.reach n).0 (s.reach n).1
-  pub inside_low : (n : Node) (q : ℕ) → Comes n → n.level < s.depth → q < 2 ^ D → IsNotPast D (s.reach n).0 (s.reach (s.child n q)).0
-  pub inside_high : (n : Node) (q : ℕ) → Comes n → n.level < s.depth → q < 2 ^ D → IsNotPast D (s.reach (s.child n q)).1 (s.reach n).1
+  pub inside_low : (n : Node) (q : ℕ) → Comes n → n.level < s.depth → q < 2 ^ D
+      → IsNotPast D (s.reach n).0 (s.reach (s.child n q)).0
+  pub inside_high : (n : Node) (q : ℕ) → Comes n → n.level < s.depth → q < 2 ^ D
+      → IsNotPast D (s.reach (s.child n q)).1 (s.reach n).1

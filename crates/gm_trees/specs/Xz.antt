@@ -1,5 +1,6 @@
 -- The tree of the XZ code.
-use Rattle.std.specs.Prelude.{◌≡◌, ◌<◌, ◌≤◌, ◌⊎◌, ℕ, ◌+◌, ◌-◌, ◌*◌, ◌/◌, ◌%◌, ◌^◌, min, Some, List, length}
+use Rattle.std.specs.Prelude.{◌≡◌, ◌<◌, ◌≤◌, ◌⊎◌, ℕ, ◌+◌, ◌-◌, ◌*◌, ◌/◌, ◌%◌, ◌^◌, min, Some, List}
+use Rattle.std.specs.Prelude.{length}
 use Rattle.gm_trees.specs.declared.node.Node.{Node}
 use Rattle.gm_trees.specs.declared.window.Node3.{Node3}
 use Rattle.gm_curve.specs.Listing.{sequence_count}
@@ -14,7 +15,8 @@ pub record IsXzSize (D G : ℕ) : Type 0 where
   pub least : 1 ≤ G
   pub most : G ≤ 16
 
--- the child of this number: its codes come behind its parent's own and those of the children before it
+-- the child of this number: its codes come behind its parent's own and those of the children before
+-- it
 abbrev pub xz_child : ℕ → ℕ → Node → ℕ → Node
 xz_child D G n q = record {
   level = n.level + 1;
@@ -33,7 +35,8 @@ abbrev pub xz_end : ℕ → ℕ → ℕ → ℕ
 xz_end whole side c = min (whole - 1) ((c + 2) * side - 1)
 
 abbrev pub xz_high : ℕ → ℕ → Node → Node3
-xz_high whole side n = record { x = xz_end whole side n.x; y = xz_end whole side n.y; t = xz_end whole side n.t }
+xz_high whole side n =
+    record { x = xz_end whole side n.x; y = xz_end whole side n.y; t = xz_end whole side n.t }
 
 abbrev pub xz_shape : ℕ → ℕ → Shape
 xz_shape D G = record {
@@ -56,10 +59,13 @@ pub record ComesXz (D G : ℕ) (n : Node) : Type 0 where
   pub t : n.t < 2 ^ n.level
   pub flat : D ≡ 2 → n.t ≡ 0
 
--- a path to the node of an object: its own code is the object's, and its reach holds the object's cells
+-- a path to the node of an object: its own code is the object's, and its reach holds the object's
+-- cells
 pub record IsObjectPath (D G : ℕ) (low high path : List ℕ) : Type 0 where
   pub deep : length path ≤ G
   pub members : AreChildNumbers D path
   pub code : (xz_shape D G).own (walk (xz_shape D G) z_root path) ≡ Some (xz_code D G low high)
-  pub holds_low : IsNotPast D ((xz_shape D G).reach (walk (xz_shape D G) z_root path)).0 (cell_of low)
-  pub holds_high : IsNotPast D (cell_of high) ((xz_shape D G).reach (walk (xz_shape D G) z_root path)).1
+  pub holds_low : IsNotPast D ((xz_shape D G).reach (walk (xz_shape D G) z_root path)).0
+      (cell_of low)
+  pub holds_high : IsNotPast D (cell_of high)
+      ((xz_shape D G).reach (walk (xz_shape D G) z_root path)).1

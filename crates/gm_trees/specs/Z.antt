@@ -1,5 +1,6 @@
 -- The tree of the Z code.
-use Rattle.std.specs.Prelude.{◌≡◌, ◌<◌, ◌≤◌, ◌⊎◌, ℕ, ◌+◌, ◌-◌, ◌*◌, ◌/◌, ◌%◌, ◌^◌, None, List, length}
+use Rattle.std.specs.Prelude.{◌≡◌, ◌<◌, ◌≤◌, ◌⊎◌, ℕ, ◌+◌, ◌-◌, ◌*◌, ◌/◌, ◌%◌, ◌^◌, None, List}
+use Rattle.std.specs.Prelude.{length}
 use Rattle.gm_trees.specs.declared.node.Node.{Node}
 use Rattle.gm_trees.specs.declared.window.Node3.{Node3}
 use Rattle.gm_curve.specs.Curve.{z_code}
@@ -15,7 +16,8 @@ pub record IsZSize (D B : ℕ) : Type 0 where
 abbrev pub z_root : Node
 z_root = record { level = 0; first = 0; x = 0; y = 0; t = 0 }
 
--- the child of this number: it has its part of the codes, and the index of each dimension goes on with a bit of the number
+-- the child of this number: it has its part of the codes, and the index of each dimension goes on
+-- with a bit of the number
 abbrev pub z_child : ℕ → ℕ → Node → ℕ → Node
 z_child D B n q = record {
   level = n.level + 1;
@@ -34,7 +36,8 @@ abbrev pub z_low : ℕ → Node → Node3
 z_low side n = record { x = n.x * side; y = n.y * side; t = n.t * side }
 
 abbrev pub z_high : ℕ → Node → Node3
-z_high side n = record { x = n.x * side + (side - 1); y = n.y * side + (side - 1); t = n.t * side + (side - 1) }
+z_high side n =
+    record { x = n.x * side + (side - 1); y = n.y * side + (side - 1); t = n.t * side + (side - 1) }
 
 abbrev pub z_shape : ℕ → ℕ → Shape
 z_shape D B = record {
@@ -57,7 +60,8 @@ pub record ComesZ (D B : ℕ) (n : Node) : Type 0 where
   pub t : n.t < 2 ^ n.level
   pub flat : D ≡ 2 → n.t ≡ 0
 
--- a path to the node of a cell of the deepest level: it has the cell's code, and reaches just the cell
+-- a path to the node of a cell of the deepest level: it has the cell's code, and reaches just the
+-- cell
 pub record IsCellPath (D B : ℕ) (at path : List ℕ) : Type 0 where
   pub deep : length path ≡ B
   pub members : AreChildNumbers D path

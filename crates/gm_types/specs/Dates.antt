@@ -7,7 +7,8 @@ use Rattle.gm_types.specs.Specification.{Specification, default_date_of, place_o
 abbrev pub IsDateSetting : Specification → Option (Option ℕ) → Type 0
 IsDateSetting t None = is_met (is_date_name t) (setting_of t (codes "geomesa.index.dtg")) ≡ false
 IsDateSetting t (Some date) =
-    (is_met (is_date_name t) (setting_of t (codes "geomesa.index.dtg")) ≡ true) × (date ≡ default_date_of t)
+    (is_met (is_date_name t) (setting_of t (codes "geomesa.index.dtg")) ≡ true)
+    × (date ≡ default_date_of t)
 
 -- the Date of that name, or nothing where there is none
 abbrev pub IsDateNamed : Specification → List ℕ → Option ℕ → Type 0

@@ -5,7 +5,8 @@ use Rattle.gm_types.specs.Words.{same_text, is_key, is_quotable}
 
 -- the value that is given to a key
 unfoldable pub datum_value : List ℕ → List Datum → Option (List ℕ)
-datum_value key given = option_map (λ datum. datum.value) (find (λ datum. same_text datum.key key) given)
+datum_value key given =
+    option_map (λ datum. datum.value) (find (λ datum. same_text datum.key key) given)
 
 abbrev pub is_datum : Datum → Bool
 is_datum datum = is_key datum.key && is_quotable datum.value

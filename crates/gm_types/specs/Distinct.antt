@@ -15,4 +15,5 @@ has_text seen text = contains (slice_cmp nat_cmp) seen text
 -- the text was new, or not, and is seen afterwards
 pub record Notes (before after : BTreeSet (List ℕ)) (text : List ℕ) (is_new : Bool) : Type 0 where
   pub was : is_new ≡ not (has_text before text)
-  pub seen : (other : List ℕ) → has_text after other ≡ (same_text text other || has_text before other)
+  pub seen : (other : List ℕ)
+      → has_text after other ≡ (same_text text other || has_text before other)

@@ -1,5 +1,8 @@
--- What every feature type is: its specification breaks no rule, and has no more attributes than a type may have.
-use Rattle.std.specs.Prelude.{◌≡◌, ℕ, ◌<◌, ◌≤◌, ◌^◌, Bool, true, false, not, ◌&&◌, ◌||◌, List, length, codes, slice_get, Option, Some, None, is_some, option_map, option_and_then}
+-- What every feature type is: its specification breaks no rule, and has no more attributes than a
+-- type may have.
+use Rattle.std.specs.Prelude.{◌≡◌, ℕ, ◌<◌, ◌≤◌, ◌^◌, Bool, true, false, not, ◌&&◌, ◌||◌, List}
+use Rattle.std.specs.Prelude.{length, codes, slice_get, Option, Some, None, is_some, option_map}
+use Rattle.std.specs.Prelude.{option_and_then}
 use Rattle.std.specs.List.{list_all, list_any}
 use Rattle.gm_types.specs.declared.attribute.Attribute.{Attribute}
 use Rattle.gm_types.specs.declared.index.IndexKind.TheVariants.{Z2, Z3, Xz2, Xz3, Attr}
@@ -8,9 +11,13 @@ use Rattle.gm_types.specs.declared.kind.Kind.{Kind}
 use Rattle.gm_types.specs.declared.kind.Kind.TheVariants.{Date, Geo}
 use Rattle.gm_types.specs.Attribute.{is_described, is_indexed, is_high}
 use Rattle.gm_types.specs.Datum.{is_datum, datum_keys}
-use Rattle.gm_types.specs.Index.{fits_index, has_index, listed_of, members_of, is_indexed_one, is_other_shape}
+use Rattle.gm_types.specs.Index.{fits_index, has_index, listed_of, members_of, is_indexed_one}
+use Rattle.gm_types.specs.Index.{is_other_shape}
 use Rattle.gm_types.specs.Kind.{is_date, is_geometry}
-use Rattle.gm_types.specs.Specification.{Specification, names_of, kind_at, default_geometry_of, default_shape_of, default_date_of, place_of_name, setting_of, period_from, number_that, is_shard_count, is_precision, is_z2_width, is_z3_width}
+use Rattle.gm_types.specs.Specification.{Specification, names_of, kind_at, default_geometry_of}
+use Rattle.gm_types.specs.Specification.{default_shape_of, default_date_of, place_of_name}
+use Rattle.gm_types.specs.Specification.{setting_of, period_from, number_that, is_shard_count}
+use Rattle.gm_types.specs.Specification.{is_precision, is_z2_width, is_z3_width}
 use Rattle.gm_types.specs.Words.{same_text, is_name, are_distinct}
 
 abbrev pub same_bool : Bool → Bool → Bool
@@ -81,7 +88,8 @@ has_time_settings t =
     && is_met (is_date_name t) (setting_of t (codes "geomesa.index.dtg"))
 
 abbrev pub has_settings : Specification → Bool
-has_settings t = has_time_settings t && (has_size_settings t && is_met (are_index_words t) (listed_of t))
+has_settings t =
+    has_time_settings t && (has_size_settings t && is_met (are_index_words t) (listed_of t))
 
 -- attributes and user data as they are read, and the place of the default geometry
 pub record IsOutline (t : Specification) : Type 0 where
@@ -112,7 +120,8 @@ pub record IsType (t : Specification) : Type 0 where
   pub few : length t.attributes ≤ 64
   pub valid : IsValid t
 
--- the place of a default geometry is that of an attribute that holds geometries, those of the default shape
+-- the place of a default geometry is that of an attribute that holds geometries, those of the
+-- default shape
 pub record IsGeometryAt (t : Specification) (place : ℕ) : Type 0 where
   pub within : place < length t.attributes
   pub shaped : is_some (default_shape_of t) ≡ true
@@ -134,7 +143,9 @@ pub record HoldsTogether (t : Specification) : Type 0 where
   pub geometry : (place : ℕ) → default_geometry_of t ≡ Some place → IsGeometryAt t place
   pub date : (place : ℕ) → default_date_of t ≡ Some place → IsDateAt t place
   pub z2 : has_index t Z2 ≡ true → default_shape_of t ≡ Some Point
-  pub z3 : has_index t Z3 ≡ true → (default_shape_of t ≡ Some Point) × (is_some (default_date_of t) ≡ true)
+  pub z3 : has_index t Z3 ≡ true
+      → (default_shape_of t ≡ Some Point) × (is_some (default_date_of t) ≡ true)
   pub xz2 : has_index t Xz2 ≡ true → is_other_shape (default_shape_of t) ≡ true
-  pub xz3 : has_index t Xz3 ≡ true → (is_other_shape (default_shape_of t) ≡ true) × (is_some (default_date_of t) ≡ true)
+  pub xz3 : has_index t Xz3 ≡ true
+      → (is_other_shape (default_shape_of t) ≡ true) × (is_some (default_date_of t) ≡ true)
   pub by_attribute : (place : ℕ) → has_index t (Attr place) ≡ true → IsIndexedAt t place

@@ -1,5 +1,7 @@
 -- The indexes of a type: which fit, which are enabled, and how they are named.
-use Rattle.std.specs.Prelude.{ℕ, zero, suc, ◌+◌, Bool, true, false, not, ◌&&◌, if◌then◌else◌, List, [], ◌∷◌, ◌++◌, length, take, drop, filter, find, codes, position, slice_get, Option, Some, None, is_some, option_map}
+use Rattle.std.specs.Prelude.{ℕ, zero, suc, ◌+◌, Bool, true, false, not, ◌&&◌, if◌then◌else◌, List}
+use Rattle.std.specs.Prelude.{[], ◌∷◌, ◌++◌, length, take, drop, filter, find, codes, position}
+use Rattle.std.specs.Prelude.{slice_get, Option, Some, None, is_some, option_map}
 use Rattle.std.specs.List.{list_any}
 use Rattle.std.specs.Option.{option_map_or}
 use Rattle.gm_types.specs.declared.attribute.Attribute.{Attribute}
@@ -8,7 +10,8 @@ use Rattle.gm_types.specs.declared.index.IndexKind.TheVariants.{Id, Z2, Z3, Xz2,
 use Rattle.gm_types.specs.declared.kind.GeoKind.{GeoKind}
 use Rattle.gm_types.specs.Kind.{is_point}
 use Rattle.gm_types.specs.Parts.{parts_of}
-use Rattle.gm_types.specs.Specification.{Specification, default_date_of, default_shape_of, setting_of}
+use Rattle.gm_types.specs.Specification.{Specification, default_date_of, default_shape_of}
+use Rattle.gm_types.specs.Specification.{setting_of}
 use Rattle.gm_types.specs.Words.{same_text}
 
 abbrev pub has_date : Specification → Bool
@@ -26,8 +29,9 @@ abbrev pub is_indexed_one : Option Attribute → Bool
 is_indexed_one None = false
 is_indexed_one (Some attribute) = attribute.indexed
 
--- which indexes fit: `id` always, `z2` where the default geometry is a Point, `xz2` where it is of another kind, `z3` and
--- `xz3` where besides there is a default date, and that of an attribute where the attribute is indexed
+-- which indexes fit: `id` always, `z2` where the default geometry is a Point, `xz2` where it is of
+-- another kind, `z3` and `xz3` where besides there is a default date, and that of an attribute
+-- where the attribute is indexed
 abbrev pub fits_index : Specification → IndexKind → Bool
 fits_index t Id = true
 fits_index t Z2 = is_point_shape (default_shape_of t)
@@ -51,7 +55,8 @@ listed_of t = setting_of t (codes "geomesa.indices.enabled")
 unfoldable pub lists_word : Specification → List ℕ → Bool
 lists_word t word = option_map_or (is_member word) (listed_of t) true
 
--- the index is enabled: it fits, and is listed where there is a list. `id` is enabled also where it is not listed
+-- the index is enabled: it fits, and is listed where there is a list. `id` is enabled also where it
+-- is not listed
 abbrev pub has_index : Specification → IndexKind → Bool
 has_index t Id = true
 has_index t Z2 = fits_index t Z2 && lists_word t (codes "z2")
@@ -90,11 +95,13 @@ index_name t (Attr number) = attribute_index_name (slice_get t.attributes number
 unfoldable pub index_of_name : Specification → List ℕ → Option IndexKind
 index_of_name t name = find (λ kind. same_text name (index_name t kind)) (enabled_indexes t)
 
--- the index that a name means, where the type has it: behind `attr:` stands the name of an attribute
+-- the index that a name means, where the type has it: behind `attr:` stands the name of an
+-- attribute
 abbrev pub attribute_meant : List Attribute → List ℕ → Option IndexKind
 attribute_meant attributes name =
     if same_text (take 5 name) (codes "attr:")
-    then option_map (λ n. Attr n) (position (λ attribute. same_text attribute.name (drop 5 name)) attributes)
+    then option_map (λ n. Attr n)
+    (position (λ attribute. same_text attribute.name (drop 5 name)) attributes)
     else None
 
 abbrev pub index_meant : List Attribute → List ℕ → Option IndexKind

@@ -1,6 +1,7 @@
--- Parts of a text: what stands between marks, those in single quotes left out of account, and texts without blanks at
--- their ends.
-use Rattle.std.specs.Prelude.{ℕ, ◌+◌, Bool, false, not, ◌&&◌, ◌==◌, if◌then◌else◌, List, [], ◌∷◌, length, take, drop, Option, Some, None}
+-- Parts of a text: what stands between marks, those in single quotes left out of account, and texts
+-- without blanks at their ends.
+use Rattle.std.specs.Prelude.{ℕ, ◌+◌, Bool, false, not, ◌&&◌, ◌==◌, if◌then◌else◌, List, [], ◌∷◌}
+use Rattle.std.specs.Prelude.{length, take, drop, Option, Some, None}
 use Rattle.std.specs.List.{prefix_len, onto_first}
 use Rattle.gm_types.specs.Words.{is_blank}
 

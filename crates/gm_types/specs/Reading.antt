@@ -1,5 +1,8 @@
 -- Which specification a text is read as, in cuts: at `;`, at commas, at colons and at `=`.
-use Rattle.std.specs.Prelude.{◌≡◌, ℕ, ◌<◌, ◌≤◌, ◌-◌, Bool, true, false, ◌&&◌, ◌==◌, nat_le, if◌then◌else◌, List, [], ◌∷◌, length, take, map, position, count_by, slice_get, slice_index_or, Option, Some, None, Result, Ok, Err, option_map, codes}
+use Rattle.std.specs.Prelude.{◌≡◌, ℕ, ◌<◌, ◌≤◌, ◌-◌, Bool, true, false, ◌&&◌, ◌==◌, nat_le}
+use Rattle.std.specs.Prelude.{if◌then◌else◌, List, [], ◌∷◌, length, take, map, position, count_by}
+use Rattle.std.specs.Prelude.{slice_get, slice_index_or, Option, Some, None, Result, Ok, Err}
+use Rattle.std.specs.Prelude.{option_map, codes}
 use Rattle.gm_types.specs.declared.attribute.Attribute.{Attribute}
 use Rattle.gm_types.specs.declared.attribute.AttributeOption.{AttributeOption}
 use Rattle.gm_types.specs.declared.datum.Datum.{Datum}
@@ -95,11 +98,13 @@ behind_of (Some cut) = Some cut.1
 abbrev pub attribute_behind : List ℕ → Option (List ℕ) → Option Attribute
 attribute_behind name None = None
 attribute_behind name (Some text) =
-    attribute_typed name (kind_named (front_of text (cut_once 58 text))) (behind_of (cut_once 58 text))
+    attribute_typed name (kind_named (front_of text (cut_once 58 text)))
+    (behind_of (cut_once 58 text))
 
 -- `name:type` and the options
 abbrev pub attribute_in : List ℕ → Option Attribute
-attribute_in text = attribute_behind (front_of text (cut_once 58 text)) (behind_of (cut_once 58 text))
+attribute_in text =
+    attribute_behind (front_of text (cut_once 58 text)) (behind_of (cut_once 58 text))
 
 abbrev pub begins_with_star : List ℕ → Bool
 begins_with_star [] = false
@@ -176,27 +181,37 @@ stands_on_geometry attributes (Some place) =
 
 -- at most one star, and it stands on a geometry
 abbrev pub stars_fit : List Bool → List Attribute → Bool
-stars_fit stars attributes = nat_le (count_by is_set stars) 1 && stands_on_geometry attributes (position is_set stars)
+stars_fit stars attributes =
+    nat_le (count_by is_set stars) 1 && stands_on_geometry attributes (position is_set stars)
 
 -- the specification of these attributes and data
 abbrev pub specification_from : List ℕ → ℕ → List Bool → List Attribute → List Datum → Specification
 specification_from name number stars attributes given =
-    record { name = name; number = number; attributes = attributes; «data» = given; geometry = geometry_place stars attributes }
+    record {
+      name = name;
+      number = number;
+      attributes = attributes;
+      «data» = given;
+      geometry = geometry_place stars attributes;
+    }
 
 abbrev pub specification_if : Bool → Specification → Option Specification
 specification_if ok t = if ok then Some t else None
 
-abbrev pub outline_with : List ℕ → ℕ → List Bool → Option (List Attribute) → Option (List Datum) → Option Specification
+abbrev pub outline_with : List ℕ → ℕ → List Bool → Option (List Attribute) → Option (List Datum)
+    → Option Specification
 outline_with name number stars None given = None
 outline_with name number stars (Some attributes) None = None
 outline_with name number stars (Some attributes) (Some given) =
-    specification_if (stars_fit stars attributes) (specification_from name number stars attributes given)
+    specification_if (stars_fit stars attributes)
+    (specification_from name number stars attributes given)
 
 -- the attributes before the first `;`, and the user data behind it
 unfoldable pub outline_of : List ℕ → ℕ → List ℕ → Option Specification
 outline_of name number text =
     let attributes = front_of text (cut_once 59 text) in
-    outline_with name number (stars_of attributes) (attributes_of attributes) (data_of (behind_of (cut_once 59 text)))
+    outline_with name number (stars_of attributes) (attributes_of attributes)
+    (data_of (behind_of (cut_once 59 text)))
 
 -- names and keys stand once each, and the listed keys have listed values
 abbrev pub is_consistent : Specification → Bool
@@ -214,5 +229,6 @@ specification_of name number text = consistent_only (outline_of name number text
 abbrev pub IsReadAs : Option Specification → Result Specification SpecFault → Type 0
 IsReadAs wanted (Ok t) = (wanted ≡ Some t) × (length t.attributes ≤ 64)
 IsReadAs wanted (Err fault.Spec) = wanted ≡ None
-IsReadAs wanted (Err fault.TooMany) = (t : Specification) × (wanted ≡ Some t) × (64 < length t.attributes)
+IsReadAs wanted (Err fault.TooMany) =
+    (t : Specification) × (wanted ≡ Some t) × (64 < length t.attributes)
 IsReadAs wanted (Err fault.NoMemory) = Unit {0}

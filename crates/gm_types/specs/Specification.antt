@@ -1,5 +1,7 @@
 -- What a feature type is: its specification, and what follows from it.
-use Rattle.std.specs.Prelude.{ℕ, ◌*◌, ◌+◌, ◌-◌, Bool, false, not, ◌&&◌, ◌||◌, ◌==◌, nat_le, if◌then◌else◌, List, [], ◌∷◌, length, map, fold, codes, position, slice_get, Option, Some, None, option_and_then, unwrap_or}
+use Rattle.std.specs.Prelude.{ℕ, ◌*◌, ◌+◌, ◌-◌, Bool, false, not, ◌&&◌, ◌||◌, ◌==◌, nat_le}
+use Rattle.std.specs.Prelude.{if◌then◌else◌, List, [], ◌∷◌, length, map, fold, codes, position}
+use Rattle.std.specs.Prelude.{slice_get, Option, Some, None, option_and_then, unwrap_or}
 use Rattle.std.specs.List.{list_all}
 use Rattle.std.specs.Char.{is_ascii_digit}
 use Rattle.gm_calendar.specs.declared.period.Period.{Period}
@@ -12,7 +14,8 @@ use Rattle.gm_types.specs.Datum.{datum_value}
 use Rattle.gm_types.specs.Kind.{is_date, shape_of}
 use Rattle.gm_types.specs.Words.{same_text}
 
--- the type's name and number, its attributes and user data in order, and the place of its default geometry:
+-- the type's name and number, its attributes and user data in order, and the place of its default
+-- geometry:
 -- the attribute with `*`, else the first geometry
 pub record Specification : Type 0 where
   pub name : List ℕ
@@ -64,7 +67,8 @@ next_digit number byte = number * 10 + (byte - 48)
 
 abbrev pub number_of : List ℕ → Option ℕ
 number_of bytes =
-    if has_no_leading_zero bytes && list_all is_ascii_digit bytes then Some (fold next_digit 0 bytes) else None
+    if has_no_leading_zero bytes && list_all is_ascii_digit bytes
+    then Some (fold next_digit 0 bytes) else None
 
 -- the number that a text writes, where it passes a test
 abbrev pub number_that : (ℕ → Bool) → List ℕ → Option ℕ
@@ -111,7 +115,8 @@ shards_of t = setting_or (number_that is_shard_count) (setting_of t (codes "geom
 
 -- the levels of the trees of extents
 unfoldable pub precision_of : Specification → ℕ
-precision_of t = setting_or (number_that is_precision) (setting_of t (codes "geomesa.xz.precision")) 12
+precision_of t =
+    setting_or (number_that is_precision) (setting_of t (codes "geomesa.xz.precision")) 12
 
 -- the bits of a coordinate in z2 and in z3
 unfoldable pub z2_bits_of : Specification → ℕ

@@ -1,5 +1,6 @@
 -- How specifications are spelled: the parts laid end to end.
-use Rattle.std.specs.Prelude.{◌≡◌, ℕ, zero, suc, ◌+◌, Bool, true, false, not, ◌&&◌, ◌||◌, ◌==◌, List, [], ◌∷◌, ◌++◌, map, Option, Some, None}
+use Rattle.std.specs.Prelude.{◌≡◌, ℕ, zero, suc, ◌+◌, Bool, true, false, not, ◌&&◌, ◌||◌, ◌==◌}
+use Rattle.std.specs.Prelude.{List, [], ◌∷◌, ◌++◌, map, Option, Some, None}
 use Rattle.std.specs.List.{list_all, join_with_byte}
 use Rattle.gm_types.specs.declared.attribute.Attribute.{Attribute}
 use Rattle.gm_types.specs.declared.attribute.AttributeOption.{AttributeOption}
@@ -20,7 +21,8 @@ options_text (option ∷ options) = (58 ∷ pair_text option) ++ options_text op
 
 -- `name:type`, and `:key=value` for each option
 abbrev pub attribute_text : Attribute → List ℕ
-attribute_text attribute = attribute.name ++ ((58 ∷ kind_name attribute.kind) ++ options_text attribute.options)
+attribute_text attribute =
+    attribute.name ++ ((58 ∷ kind_name attribute.kind) ++ options_text attribute.options)
 
 abbrev pub star_text : Bool → List ℕ
 star_text true = 42 ∷ []
@@ -59,23 +61,26 @@ pub record WrittenDatum : Type 0 where
 abbrev pub written_datum : WrittenDatum → List ℕ
 written_datum w = w.before ++ (datum_text w.quoted w.datum ++ w.after)
 
--- the attributes with commas between them, and `;` and the user data with commas between them, if there are any
+-- the attributes with commas between them, and `;` and the user data with commas between them, if
+-- there are any
 abbrev pub data_part : List (List ℕ) → List ℕ
 data_part [] = []
 data_part (text ∷ texts) = 59 ∷ join_with_byte 44 (text ∷ texts)
 
 abbrev pub written : List WrittenAttribute → List WrittenDatum → List ℕ
-written attributes given = join_with_byte 44 (map written_attribute attributes) ++ data_part (map written_datum given)
+written attributes given =
+    join_with_byte 44 (map written_attribute attributes) ++ data_part (map written_datum given)
 
 -- blanks alone stand round an attribute or a datum, and a value without quotes needs none
 abbrev pub has_blanks : WrittenAttribute → Bool
 has_blanks w = list_all is_blank w.before && list_all is_blank w.after
 
 abbrev pub may_be_written : WrittenDatum → Bool
-may_be_written w = (list_all is_blank w.before && list_all is_blank w.after) && (w.quoted || is_bare w.datum.value)
+may_be_written w =
+    (list_all is_blank w.before && list_all is_blank w.after) && (w.quoted || is_bare w.datum.value)
 
--- the text spells the specification: at most one attribute has a star, and it is a geometry and the default geometry; where
--- none has one, the first geometry is
+-- the text spells the specification: at most one attribute has a star, and it is a geometry and the
+-- default geometry; where none has one, the first geometry is
 pub record Spells (text : List ℕ) (t : Specification) : Type 0 where
   pub attributes : List WrittenAttribute
   pub given : List WrittenDatum
@@ -88,7 +93,8 @@ pub record Spells (text : List ℕ) (t : Specification) : Type 0 where
   pub geometry : t.geometry ≡ geometry_place (map (λ w. w.star) attributes) t.attributes
   pub valid : IsValid t
 
--- the canonical text: a star before the default geometry alone, no blanks, and quotes where they are needed
+-- the canonical text: a star before the default geometry alone, no blanks, and quotes where they
+-- are needed
 abbrev pub is_place : Option ℕ → ℕ → Bool
 is_place None place = false
 is_place (Some p) place = p == place
@@ -98,7 +104,8 @@ plainly star a = record { before = []; star = star; attribute = a; after = [] }
 
 abbrev pub canonical_attributes : Option ℕ → ℕ → List Attribute → List WrittenAttribute
 canonical_attributes geometry place [] = []
-canonical_attributes geometry place (a ∷ rest) = plainly (is_place geometry place) a ∷ canonical_attributes geometry (place + 1) rest
+canonical_attributes geometry place (a ∷ rest) =
+    plainly (is_place geometry place) a ∷ canonical_attributes geometry (place + 1) rest
 
 abbrev pub needs_quotes : List ℕ → Bool
 needs_quotes value = not (is_bare_form value)
@@ -107,7 +114,8 @@ abbrev pub canonical_datum : Datum → WrittenDatum
 canonical_datum d = record { before = []; quoted = needs_quotes d.value; datum = d; after = [] }
 
 unfoldable pub canonical_text : Specification → List ℕ
-canonical_text t = written (canonical_attributes t.geometry 0 t.attributes) (map canonical_datum t.data)
+canonical_text t =
+    written (canonical_attributes t.geometry 0 t.attributes) (map canonical_datum t.data)
 
 -- texts with commas before all but the first
 abbrev pub comma_before : ℕ → List ℕ

@@ -1,5 +1,6 @@
 -- The types of a store.
-use Rattle.std.specs.Prelude.{◌≡◌, ℕ, ◌≤◌, ◌^◌, Bool, true, ◌==◌, ◌&&◌, ◌+◌, List, [], ◌∷◌, length, map, position, Option}
+use Rattle.std.specs.Prelude.{◌≡◌, ℕ, ◌≤◌, ◌^◌, Bool, true, ◌==◌, ◌&&◌, ◌+◌, List, [], ◌∷◌, length}
+use Rattle.std.specs.Prelude.{map, position, Option}
 use Rattle.gm_types.specs.Specification.{Specification}
 use Rattle.gm_types.specs.Words.{same_text, are_distinct}
 

@@ -1,9 +1,12 @@
 -- Reading as functions on lists, where no memory is taken.
-use Rattle.std.specs.Prelude.{◌≡◌, ◌==◌, ◌&&◌, ℕ, Bool, true, false, if◌then◌else◌, ℤ, List, [], ◌∷◌, ◌++◌, take, drop, Option, Some, None, option_map, option_and_then}
+use Rattle.std.specs.Prelude.{◌≡◌, ◌==◌, ◌&&◌, ℕ, Bool, true, false, if◌then◌else◌, ℤ, List, []}
+use Rattle.std.specs.Prelude.{◌∷◌, ◌++◌, take, drop, Option, Some, None, option_map}
+use Rattle.std.specs.Prelude.{option_and_then}
 use Rattle.std.specs.List.{prefix_len}
 use Rattle.gm_geom.specs.declared.point.Point.{Point}
 use Rattle.gm_geom.specs.Number.{is_number_byte}
-use Rattle.gm_wkt.specs.Grammar.{comma, opening, closing, is_blank, coordinate_of, SpellsPosition, SpellsLoose, SpellsMember}
+use Rattle.gm_wkt.specs.Grammar.{comma, opening, closing, is_blank, coordinate_of, SpellsPosition}
+use Rattle.gm_wkt.specs.Grammar.{SpellsLoose, SpellsMember}
 use Rattle.gm_wkt.specs.declared.halt.Halt.{Halt}
 use Rattle.gm_wkt.specs.declared.halt.Halt.TheVariants.{Syntax, NoMemory}
 

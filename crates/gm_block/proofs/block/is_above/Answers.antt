@@ -18,7 +18,12 @@ returns-in-Some c =
     let last = c.in-Some.last.now in
     let front = c.in-Some.field-0-1.now in
     let parts = c.in-Some.ensures.cases.0 in
-    let told : c.is_lt.result ≡ is_lt (slice_cmp nat_cmp last.key key) = c.is_lt.ensures ∙ ap is_lt (c.cmp.ensures ∙ ap (λ bytes. slice_cmp nat_cmp bytes key) c.as_slice.ensures) in (
-      λ yes. subst (λ rows. IsAbove rows key) (sym parts) (above-last front last key (less _ (sym told ∙ yes))),
-      λ above. told ∙ ap is_lt (last-above front last key (subst (λ rows. IsAbove rows key) parts above)),
+    let told : c.is_lt.result ≡ is_lt (slice_cmp nat_cmp last.key key) =
+    c.is_lt.ensures
+    ∙ ap is_lt (c.cmp.ensures
+    ∙ ap (λ bytes. slice_cmp nat_cmp bytes key) c.as_slice.ensures) in (
+      λ yes. subst (λ rows. IsAbove rows key) (sym parts)
+          (above-last front last key (less _ (sym told ∙ yes))),
+      λ above. told ∙ ap is_lt
+          (last-above front last key (subst (λ rows. IsAbove rows key) parts above)),
     )

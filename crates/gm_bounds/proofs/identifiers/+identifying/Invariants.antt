@@ -8,8 +8,11 @@ use Rattle.gm_bounds.proofs.identifiers.+identifying.Given as goal
 abbrev pub invariant-ids_in_all-members : goal.invariant-ids_in_all-members
 invariant-ids_in_all-members l = record {
   rising : IsRisingBound l.found;
-  same : all_of id_rules l.found (trees_of (map tree (drop l.filter-index l.filters))) ≡ all_of id_rules anywhere (trees_of (map tree l.filters));
+  same : all_of id_rules l.found (trees_of (map tree (drop l.filter-index l.filters)))
+      ≡ all_of id_rules anywhere (trees_of (map tree l.filters));
 }
 
 abbrev pub invariant-ids_in_any-members : goal.invariant-ids_in_any-members
-invariant-ids_in_any-members l = any_of id_rules l.found (trees_of (map tree (drop l.filter-index l.filters))) ≡ any_of id_rules nowhere (trees_of (map tree l.filters))
+invariant-ids_in_any-members l =
+    any_of id_rules l.found (trees_of (map tree (drop l.filter-index l.filters)))
+    ≡ any_of id_rules nowhere (trees_of (map tree l.filters))

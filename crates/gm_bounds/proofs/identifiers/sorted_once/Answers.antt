@@ -8,4 +8,5 @@ pub returns : goal.returns
 returns c =
     c.from_vec.ensures
     ∙ dedup_is bytes_eq c.sort.new.self.items c.dedup.new.self.items c.dedup.ensures.filtered
-    ∙ sorted_is c.args.list.items c.sort.new.self.items c.sort.ensures.permutation c.in_ok-sort.ensures.sorted
+    ∙ sorted_is c.args.list.items c.sort.new.self.items c.sort.ensures.permutation
+    c.in_ok-sort.ensures.sorted

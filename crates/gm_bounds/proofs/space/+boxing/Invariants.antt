@@ -9,11 +9,15 @@ use Rattle.gm_bounds.proofs.space.+boxing.Given as goal
 abbrev pub invariant-boxes_in_all-members : goal.invariant-boxes_in_all-members
 invariant-boxes_in_all-members l = record {
   has_kept : AllHaveKept (trees_of (map tree (drop l.filter-index l.filters)));
-  same : all_of (box_rules l.at l.points) l.found (trees_of (map tree (drop l.filter-index l.filters))) ≡ all_of (box_rules l.at l.points) anywhere (trees_of (map tree l.filters));
+  same : all_of (box_rules l.at l.points) l.found
+      (trees_of (map tree (drop l.filter-index l.filters)))
+      ≡ all_of (box_rules l.at l.points) anywhere (trees_of (map tree l.filters));
 }
 
 abbrev pub invariant-boxes_in_any-members : goal.invariant-boxes_in_any-members
 invariant-boxes_in_any-members l = record {
   has_kept : AllHaveKept (trees_of (map tree (drop l.filter-index l.filters)));
-  same : any_of (box_rules l.at l.points) l.found (trees_of (map tree (drop l.filter-index l.filters))) ≡ any_of (box_rules l.at l.points) nowhere (trees_of (map tree l.filters));
+  same : any_of (box_rules l.at l.points) l.found
+      (trees_of (map tree (drop l.filter-index l.filters)))
+      ≡ any_of (box_rules l.at l.points) nowhere (trees_of (map tree l.filters));
 }

@@ -5,4 +5,6 @@ use Rattle.gm_bounds.specs.Intervals.{instants_of}
 use Rattle.gm_bounds.proofs.time.instants.Given as goal
 
 abbrev pub invariant-literals : goal.invariant-literals
-invariant-literals l = l.list.items ++ kept is_void (instants_of (drop l.literal-index l.literals)) ≡ kept is_void (instants_of l.literals)
+invariant-literals l =
+    l.list.items ++ kept is_void (instants_of (drop l.literal-index l.literals))
+    ≡ kept is_void (instants_of l.literals)

@@ -5,4 +5,6 @@ use Rattle.gm_bounds.specs.ByteRanges.{ranges_of}
 use Rattle.gm_bounds.proofs.values.ranges.Given as goal
 
 abbrev pub invariant-literals : goal.invariant-literals
-invariant-literals l = l.list.items ++ kept is_void (ranges_of l.kind (drop l.literal-index l.literals)) ≡ kept is_void (ranges_of l.kind l.literals)
+invariant-literals l =
+    l.list.items ++ kept is_void (ranges_of l.kind (drop l.literal-index l.literals))
+    ≡ kept is_void (ranges_of l.kind l.literals)

@@ -1,4 +1,5 @@
-use Rattle.gm_calendar.proofs.BinOrder.{bin_at-tells, has_number_where, bin_at-offset, ends_before, later_is_not_after}
+use Rattle.gm_calendar.proofs.BinOrder.{bin_at-tells, has_number_where, bin_at-offset, ends_before}
+use Rattle.gm_calendar.proofs.BinOrder.{later_is_not_after}
 use Rattle.gm_calendar.proofs.bin.bins_follow_time.Goals as goal
 
 pub returns-clause-by_starts : goal.returns-clause-by_starts

@@ -11,4 +11,6 @@ returns c =
     let month = d.month_in in
     let day = d.day_in in
     let long = days_in_month_bounds d.year d.month in
-    month_place_lem d _ _ c.args.ms _ (omega (arith, signed_casts, one_part)) (omega (arith, signed_casts, one_part)) date.ensures.day (omega (arith, signed_casts, one_part))
+    month_place_lem d _ _ c.args.ms _ (omega (arith, signed_casts, one_part))
+    (omega (arith, signed_casts, one_part)) date.ensures.day
+    (omega (arith, signed_casts, one_part))

@@ -11,4 +11,5 @@ returns c =
     let d = date.result in
     let bound = day_of_year_bound d.year d.month d.day (civil d) in
     let long = days_in_year_bounds d.year in
-    year_place_lem d _ c.args.ms _ (omega (arith, signed_casts, one_part)) date.ensures.day (omega (arith, signed_casts, one_part))
+    year_place_lem d _ c.args.ms _ (omega (arith, signed_casts, one_part)) date.ensures.day
+    (omega (arith, signed_casts, one_part))

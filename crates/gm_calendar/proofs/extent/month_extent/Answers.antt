@@ -21,4 +21,7 @@ returns c =
     let day : d.day ≡ 1 = omega (arith, signed_casts) in
     let is = month_extent_lem d c.args.number year month day in
     let long = days_in_month_bounds d.year d.month in
-    record { first_is = omega (arith, signed_casts); days_is = omega (arith, signed_casts, one_part) }
+    record {
+      first_is = omega (arith, signed_casts);
+      days_is = omega (arith, signed_casts, one_part);
+    }

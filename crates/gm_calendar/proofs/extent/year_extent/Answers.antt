@@ -21,4 +21,7 @@ returns c =
     let day : d.day ≡ 1 = omega (arith, signed_casts) in
     let is = year_extent_lem d c.args.number year month day in
     let long = days_in_year_bounds d.year in
-    record { first_is = omega (arith, signed_casts); days_is = omega (arith, signed_casts, one_part) }
+    record {
+      first_is = omega (arith, signed_casts);
+      days_is = omega (arith, signed_casts, one_part);
+    }

@@ -1,4 +1,5 @@
-use Rattle.gm_calendar.proofs.Spelled.{instant_is_spelled, one_instant, spelled_bytes, spelled_lacks, spelled_length}
+use Rattle.gm_calendar.proofs.Spelled.{instant_is_spelled, one_instant, spelled_bytes}
+use Rattle.gm_calendar.proofs.Spelled.{spelled_lacks, spelled_length}
 use Rattle.gm_calendar.proofs.laws.instants_are_spelled.Goals as goal
 
 pub returns-clause-instant : goal.returns-clause-instant

@@ -20,5 +20,7 @@ returns c =
     let y : d.year ≡ pos year = omega (arith, signed_casts, one_part) in
     let m : d.month ≡ month = omega (arith, signed_casts, one_part) in
     let n : d.day ≡ day = omega (arith, signed_casts, one_part) in
-    let same = day_text-of_date d year month day c.args.day date.ensures.day y m n (omega (arith, signed_casts, one_part)) in
-    IfOk-weaker c.append_date.result _ _ (λ x e. e ∙ ap (λ t. string_bytes c.args.text.now ++ t) same) c.append_date.ensures
+    let same = day_text-of_date d year month day c.args.day date.ensures.day y m n
+    (omega (arith, signed_casts, one_part)) in
+    IfOk-weaker c.append_date.result _ _
+    (λ x e. e ∙ ap (λ t. string_bytes c.args.text.now ++ t) same) c.append_date.ensures

@@ -6,5 +6,6 @@ use Rattle.gm_calendar.proofs.reader.count_digits.Given as goal
 abbrev pub invariant-loop-byte : goal.invariant-loop-byte
 invariant-loop-byte l = record {
   counted : l.count ≡ l.byte-index;
-  left : l.count + prefix_len is_ascii_digit (drop l.byte-index l.text) ≡ prefix_len is_ascii_digit l.text;
+  left : l.count + prefix_len is_ascii_digit (drop l.byte-index l.text)
+      ≡ prefix_len is_ascii_digit l.text;
 }

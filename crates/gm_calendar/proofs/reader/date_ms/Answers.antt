@@ -13,4 +13,5 @@ returns-clause-value c =
     let plain = c.to_plain.ensures in
     let number = rw plain at c.to_unix_epoch_day.ensures.value in
     let bound = c.to_unix_epoch_day.ensures.bound in
-    ap Some (omega (arith, signed_casts)) ∙ date_at-date d c.args.year c.args.month c.args.day year month day
+    ap Some (omega (arith, signed_casts))
+    ∙ date_at-date d c.args.year c.args.month c.args.day year month day

@@ -9,4 +9,8 @@ returns-clause-value c =
     let behind = c.in_ok-read_behind_seconds.ensures in
     let low = seconds.bound in
     let high = behind.bound in
-    ap Some (omega (arith, signed_arith)) ∙ colon_seconds c.args.text.now c.in-Some.rest.now c.split_at.result.0.now c.split_at.result.1.now c.in-Some.mark.now c.in_ok-seconds.seconds c.in_ok-read_behind_seconds.field-0 c.in-Some.ensures.cases.0 c.if-mark-ne58.false c.split_at.ensures.front c.split_at.ensures.back seconds.value behind.value
+    ap Some (omega (arith, signed_arith))
+    ∙ colon_seconds c.args.text.now c.in-Some.rest.now c.split_at.result.0.now
+    c.split_at.result.1.now c.in-Some.mark.now c.in_ok-seconds.seconds
+    c.in_ok-read_behind_seconds.field-0 c.in-Some.ensures.cases.0 c.if-mark-ne58.false
+    c.split_at.ensures.front c.split_at.ensures.back seconds.value behind.value

@@ -9,4 +9,9 @@ returns-clause-value c =
     let zone = c.in_ok-read_zone.ensures in
     let low = fraction.bound in
     let high = zone.bound in
-    ap Some (omega (arith, signed_arith)) ∙ point_digits_zone c.args.text.now c.in-Some.rest.now c.split_at.result.0.now c.split_at.result.1.now c.in-Some.mark.now c.count_digits.result c.in_ok-fraction.fraction c.in_ok-read_zone.field-0 c.in-Some.ensures.cases.0 c.if-mark-ne46.false c.count_digits.ensures.value c.split_at.ensures.front c.split_at.ensures.back fraction.value zone.value
+    ap Some (omega (arith, signed_arith))
+    ∙ point_digits_zone c.args.text.now c.in-Some.rest.now c.split_at.result.0.now
+    c.split_at.result.1.now c.in-Some.mark.now c.count_digits.result c.in_ok-fraction.fraction
+    c.in_ok-read_zone.field-0 c.in-Some.ensures.cases.0 c.if-mark-ne46.false
+    c.count_digits.ensures.value c.split_at.ensures.front c.split_at.ensures.back
+    fraction.value zone.value

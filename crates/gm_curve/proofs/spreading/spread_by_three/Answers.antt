@@ -5,4 +5,5 @@ use Rattle.gm_curve.proofs.spreading.spread_by_three.Goals as goal
 
 pub returns : goal.returns
 unfolding spread_of
-returns c = spread_three c.args.x c.from-x.result _ _ _ _ c.requires c.from-x.ensures refl refl refl refl
+returns c = spread_three c.args.x c.from-x.result _ _ _ _ c.requires c.from-x.ensures refl
+    refl refl refl

@@ -5,10 +5,13 @@ use Rattle.gm_curve.proofs.xz.sequences.Goals as goal
 
 pub nonzero_div-result : goal.nonzero_div-result
 nonzero_div-result c =
-    let width : 1 * 2 ^ c.args.dimensions % 2 ^ 64 ≡ 2 ^ c.args.dimensions = one_shl c.args.dimensions 64 (omega arith) in
+    let width : 1 * 2 ^ c.args.dimensions % 2 ^ 64 ≡ 2 ^ c.args.dimensions =
+    one_shl c.args.dimensions 64 (omega arith) in
     omega (arith, width, some_width c.args.dimensions c.requires.some)
 
 pub returns : goal.returns
 returns c =
-    let width : 1 * 2 ^ c.args.dimensions % 2 ^ 64 ≡ 2 ^ c.args.dimensions = one_shl c.args.dimensions 64 (omega arith) in
-    rw (shifted_one c.args.dimensions c.args.places c.requires.few c.requires.most) (rw width (count_closed c.args.dimensions c.args.places c.requires.some c.requires.least))
+    let width : 1 * 2 ^ c.args.dimensions % 2 ^ 64 ≡ 2 ^ c.args.dimensions =
+    one_shl c.args.dimensions 64 (omega arith) in
+    rw (shifted_one c.args.dimensions c.args.places c.requires.few c.requires.most)
+    (rw width (count_closed c.args.dimensions c.args.places c.requires.some c.requires.least))

@@ -4,4 +4,5 @@ use Rattle.gm_ecql.specs.Tokens.{is_blank}
 use Rattle.gm_ecql.proofs.bytes.blank_count.Given as goal
 
 abbrev pub invariant-bytes : goal.invariant-bytes
-invariant-bytes l = prefix_len is_blank l.bytes ≡ l.count + prefix_len is_blank (drop l.count l.bytes)
+invariant-bytes l =
+    prefix_len is_blank l.bytes ≡ l.count + prefix_len is_blank (drop l.count l.bytes)

@@ -11,5 +11,10 @@ returns c = λ s t typed suited.
       date = c.printed_instants_are_read.ensures.date;
       bytes = c.printed_instants_are_read.ensures.bytes;
     } in
-    let below : Below = record { instants = instants; fixed = c.reads_back.ensures; kept = c.printed_is_spelled.ensures.reads_back } in
+    let below : Below =
+    record {
+      instants = instants;
+      fixed = c.reads_back.ensures;
+      kept = c.printed_is_spelled.ensures.reads_back;
+    } in
     spells s below typed t suited

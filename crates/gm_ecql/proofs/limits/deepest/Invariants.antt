@@ -7,5 +7,6 @@ abbrev pub invariant-tokens : goal.invariant-tokens
 invariant-tokens l = record {
   few : l.depth ≤ l.spaced-index;
   least : l.depth ≤ l.most;
-  same : max l.most (deepest l.depth (seen_all (drop l.spaced-index l.tokens))) ≡ deepest 0 (seen_all l.tokens);
+  same : max l.most (deepest l.depth (seen_all (drop l.spaced-index l.tokens)))
+      ≡ deepest 0 (seen_all l.tokens);
 }

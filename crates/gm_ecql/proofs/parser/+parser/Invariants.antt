@@ -24,7 +24,8 @@ invariant-term-factors l = record {
   some : 1 ≤ length l.members.items;
   shorter : length l.rest < length l.tokens;
   pending : (n : ℕ) → length l.tokens ≤ n
-      → Pending keyword.And all (factor_at l.of n) (record { members = map tree l.members.items; faults = faults_seen l.faults })
+      → Pending keyword.And all (factor_at l.of n)
+      (record { members = map tree l.members.items; faults = faults_seen l.faults })
       (seen_all l.rest) (term_with (factor_at l.of n) n (seen_all l.tokens));
 }
 
@@ -36,7 +37,8 @@ invariant-filter-terms l = record {
   some : 1 ≤ length l.members.items;
   shorter : length l.rest < length l.tokens;
   pending : (n : ℕ) → length l.tokens ≤ n
-      → Pending keyword.Or any (term_with (factor_at l.of n) n) (record { members = map tree l.members.items; faults = faults_seen l.faults })
+      → Pending keyword.Or any (term_with (factor_at l.of n) n)
+      (record { members = map tree l.members.items; faults = faults_seen l.faults })
       (seen_all l.rest) (filter_with (factor_at l.of n) n (seen_all l.tokens));
 }
 

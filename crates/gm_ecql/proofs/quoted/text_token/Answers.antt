@@ -5,8 +5,10 @@ use Rattle.gm_ecql.proofs.Complete.{no_utf8, utf8_is}
 use Rattle.gm_ecql.proofs.quoted.text_token.Goals as goal
 
 pub returns-in-Err : goal.returns-in-Err
-returns-in-Err c = no_utf8 c.args.text.now (a_text_then c.args.text.now c.args.rest.now) c.in-Err.ensures.cases.0
+returns-in-Err c =
+    no_utf8 c.args.text.now (a_text_then c.args.text.now c.args.rest.now) c.in-Err.ensures.cases.0
 
 pub returns-in-Ok : goal.returns-in-Ok
 returns-in-Ok c = ap (λ z. Some (a_text (undoubled z), c.args.rest.now)) c.in-Ok.ensures.cases.0
-    ∙ sym (utf8_is c.args.text.now (a_text_then c.args.text.now c.args.rest.now) c.in-Ok.ensures.cases.1)
+    ∙ sym (utf8_is c.args.text.now (a_text_then c.args.text.now c.args.rest.now)
+    c.in-Ok.ensures.cases.1)

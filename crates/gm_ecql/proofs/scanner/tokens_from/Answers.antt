@@ -1,23 +1,38 @@
-use Rattle.std.proofs.Common.{◌≡◌, ◌≢◌, List, Bool, ◌∷◌, [], ◌++◌, map, option_map, ℕ, ◌<◌, ◌≤◌, length, drop, nat_lt, sym, refl, ap, ◌∙◌, arith}
+use Rattle.std.proofs.Common.{◌≡◌, ◌≢◌, List, Bool, ◌∷◌, [], ◌++◌, map, option_map, ℕ, ◌<◌, ◌≤◌}
+use Rattle.std.proofs.Common.{length, drop, nat_lt, sym, refl, ap, ◌∙◌, arith}
 use Rattle.gm_ecql.specs.Tokens.{Seen, Spells, seen, seen_spaced}
 use Rattle.gm_ecql.specs.Scanning.{token_at}
-use Rattle.gm_ecql.proofs.Lists.{Keeps, keeps_step, keeps_none, keeps_end, token_shorter, mapped_push, empty_list, some_list}
+use Rattle.gm_ecql.proofs.Lists.{Keeps, keeps_step, keeps_none, keeps_end, token_shorter}
+use Rattle.gm_ecql.proofs.Lists.{mapped_push, empty_list, some_list}
 use Rattle.gm_ecql.proofs.scanner.tokens_from.Goals as goal
 
 pub tokens-smaller : goal.tokens-smaller
-tokens-smaller c = token_shorter c.tokens.rest.now c.in-Some.after.now (seen c.in-Some.token) c.blank_count-count.result (ap token_at (sym c.split_at.ensures.back) ∙ sym c.in-Some.ensures)
+tokens-smaller c =
+    token_shorter c.tokens.rest.now c.in-Some.after.now (seen c.in-Some.token)
+    c.blank_count-count.result
+    (ap token_at (sym c.split_at.ensures.back) ∙ sym c.in-Some.ensures)
 
 pub tokens-preserved : goal.tokens-preserved
 tokens-preserved c =
-    keeps_step c.args.text.now c.tokens.rest.now c.in-Some.after.now (nat_lt 0 c.blank_count-count.result) (seen c.in-Some.token) c.blank_count-count.result (map seen_spaced c.tokens.found.items) (map seen_spaced c.push.new.self.items)
+    keeps_step c.args.text.now c.tokens.rest.now c.in-Some.after.now
+    (nat_lt 0 c.blank_count-count.result) (seen c.in-Some.token) c.blank_count-count.result
+    (map seen_spaced c.tokens.found.items) (map seen_spaced c.push.new.self.items)
     (some_list c.tokens.rest.now c.is_empty.result c.is_empty.ensures c.tokens-test.true)
-    c.blank_count-count.ensures.value c.blank_count-count.ensures.within refl (ap token_at (sym c.split_at.ensures.back) ∙ sym c.in-Some.ensures) (mapped_push seen_spaced c.tokens.found.items c.push.new.self.items _ c.in-Ok.ensures.items) c.tokens.invariant
+    c.blank_count-count.ensures.value c.blank_count-count.ensures.within refl
+    (ap token_at (sym c.split_at.ensures.back) ∙ sym c.in-Some.ensures)
+    (mapped_push seen_spaced c.tokens.found.items c.push.new.self.items _
+    c.in-Ok.ensures.items) c.tokens.invariant
 
 pub returns-clause-found : goal.returns-clause-found
-returns-clause-found c = keeps_end c.args.text.now c.tokens.rest.now (map seen_spaced c.tokens.found.items) (empty_list c.tokens.rest.now c.is_empty.result c.is_empty.ensures c.tokens-test.false) c.tokens.invariant
+returns-clause-found c =
+    keeps_end c.args.text.now c.tokens.rest.now (map seen_spaced c.tokens.found.items)
+    (empty_list c.tokens.rest.now c.is_empty.result c.is_empty.ensures c.tokens-test.false)
+    c.tokens.invariant
 
 pub returns-in-None-clause-none : goal.returns-in-None-clause-none
 returns-in-None-clause-none c = λ _ ts s.
-    keeps_none c.args.text.now c.tokens.rest.now c.blank_count-count.result (map seen_spaced c.tokens.found.items) ts
+    keeps_none c.args.text.now c.tokens.rest.now c.blank_count-count.result
+    (map seen_spaced c.tokens.found.items) ts
     (some_list c.tokens.rest.now c.is_empty.result c.is_empty.ensures c.tokens-test.true)
-    c.blank_count-count.ensures.value (ap token_at (sym c.split_at.ensures.back) ∙ sym c.in-None.ensures) c.tokens.invariant s
+    c.blank_count-count.ensures.value
+    (ap token_at (sym c.split_at.ensures.back) ∙ sym c.in-None.ensures) c.tokens.invariant s

@@ -6,7 +6,9 @@ use Rattle.gm_ecql.proofs.Gathering.{Gathering}
 use Rattle.gm_ecql.proofs.test_reader.constants_at.Given as goal
 
 abbrev pub invariant-constants : goal.invariant-constants
-invariant-constants l = Gathering constant_at (map constant_seen l.constants.items) (seen_all l.rest) (constants_at (seen_all l.tokens))
+invariant-constants l =
+    Gathering constant_at (map constant_seen l.constants.items) (seen_all l.rest)
+    (constants_at (seen_all l.tokens))
 
 abbrev pub decreases-constants : goal.decreases-constants
 decreases-constants l = length l.rest

@@ -1,4 +1,5 @@
-use Rattle.gm_engine_rows.proofs.Exchanges.{exchanges_keep, exchanged_types, exchanged_here, exchanged_elsewhere}
+use Rattle.gm_engine_rows.proofs.Exchanges.{exchanges_keep, exchanged_types, exchanged_here}
+use Rattle.gm_engine_rows.proofs.Exchanges.{exchanged_elsewhere}
 use Rattle.gm_engine_rows.proofs.laws.exchanges_keep_the_state.Goals as goal
 
 pub returns-clause-state : goal.returns-clause-state
@@ -11,4 +12,5 @@ pub returns-clause-here : goal.returns-clause-here
 returns-clause-here c = λ s n t id exchanges typed. exchanged_here n id exchanges s t typed
 
 pub returns-clause-elsewhere : goal.returns-clause-elsewhere
-returns-clause-elsewhere c = λ s m n id exchanges apart. exchanged_elsewhere m n id exchanges s apart
+returns-clause-elsewhere c =
+    λ s m n id exchanges apart. exchanged_elsewhere m n id exchanges s apart

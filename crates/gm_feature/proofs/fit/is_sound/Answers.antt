@@ -6,5 +6,6 @@ use Rattle.gm_feature.proofs.fit.is_sound.Goals as goal
 pub returns-in-Text : goal.returns-in-Text
 returns-in-Text c =
     c.has_text_form.ensures ∙ ap has_text_form c.as_bytes.ensures.bytes
-    ∙ sym (ap (λ b. b && has_text_form c.in-Text.text) (is_utf8-from_IsUtf8 c.in-Text.text c.as_bytes.ensures.utf8))
+    ∙ sym (ap (λ b. b && has_text_form c.in-Text.text)
+    (is_utf8-from_IsUtf8 c.in-Text.text c.as_bytes.ensures.utf8))
     ∙ ap is_sound (sym c.in-Text.is)

@@ -7,7 +7,8 @@ use Rattle.gm_feature.proofs.laws.stored_texts_are_utf8.Goals as goal
 
 pub returns-clause-identifier : goal.returns-clause-identifier
 returns-clause-identifier c = λ s f is.
-    IsUtf8-from_is_utf8 f.id (both_so (is_utf8 f.id) (has_identifier_form f.id) is.fits.identifier).0
+    IsUtf8-from_is_utf8 f.id
+    (both_so (is_utf8 f.id) (has_identifier_form f.id) is.fits.identifier).0
 
 pub returns-clause-text : goal.returns-clause-text
 returns-clause-text c = λ text sound.

@@ -6,4 +6,5 @@ use Rattle.gm_feature.proofs.reader.values_of.Given as goal
 
 abbrev pub invariant-values : goal.invariant-values
 invariant-values l =
-    with_front l.values.items (values_from (drop l.attribute-index (kinds l.attributes)) l.rest) ≡ values_from (kinds l.attributes) l.bytes
+    with_front l.values.items (values_from (drop l.attribute-index (kinds l.attributes)) l.rest)
+    ≡ values_from (kinds l.attributes) l.bytes

@@ -6,7 +6,11 @@ pub members-init : goal.members-init
 members-init c = λ x e. left_start lines_from c.args.count c.args.bytes.now x e
 
 pub members-preserved : goal.members-preserved
-members-preserved c = λ x e. left_on lines_from c.args.count c.members.counter c.members.rest.now c.skip_lines-rest.result.now x.1 c.members-test.true c.skip_lines-rest.ensures (c.members.invariant x e)
+members-preserved c =
+    λ x e. left_on lines_from c.args.count c.members.counter c.members.rest.now
+    c.skip_lines-rest.result.now x.1 c.members-test.true c.skip_lines-rest.ensures
+    (c.members.invariant x e)
 
 pub returns : goal.returns
-returns c = λ x e. left_done lines_from c.args.count c.members.counter c.members.rest.now x.1 c.members-test.false (c.members.invariant x e)
+returns c = λ x e. left_done lines_from c.args.count c.members.counter c.members.rest.now x.1
+    c.members-test.false (c.members.invariant x e)

@@ -5,4 +5,6 @@ use Rattle.gm_feature.proofs.Leaps.{Left}
 use Rattle.gm_feature.proofs.skips.skip_many_lines.Given as goal
 
 abbrev pub invariant-members : goal.invariant-members
-invariant-members l = ForSome (members_from points_from l.count l.bytes) (λ x. Left points_from (l.count - l.counter) l.rest x.1)
+invariant-members l =
+    ForSome (members_from points_from l.count l.bytes)
+    (λ x. Left points_from (l.count - l.counter) l.rest x.1)

@@ -5,4 +5,6 @@ use Rattle.gm_feature.proofs.Leaps.{ValuesLeft}
 use Rattle.gm_feature.proofs.skips.skip_values.Given as goal
 
 abbrev pub invariant-values : goal.invariant-values
-invariant-values l = ForSome (values_from (kinds l.attributes) l.bytes) (λ x. ValuesLeft l.attributes l.attribute-index l.rest x.1)
+invariant-values l =
+    ForSome (values_from (kinds l.attributes) l.bytes)
+    (λ x. ValuesLeft l.attributes l.attribute-index l.rest x.1)

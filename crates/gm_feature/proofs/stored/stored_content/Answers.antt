@@ -6,4 +6,6 @@ use Rattle.gm_feature.proofs.stored.stored_content.Goals as goal
 
 pub returns-in-Geo : goal.returns-in-Geo
 returns-in-Geo c = λ x e.
-    made_says (λ (g : Geometry). value.Geo g) (geometry_from c.in-Geo.field-0 c.args.bytes.now) c.stored_geometry.result (c.stored_geometry.ensures c.in-Geo.field-0) x (rw c.in-Geo.is at e)
+    made_says (λ (g : Geometry). value.Geo g) (geometry_from c.in-Geo.field-0 c.args.bytes.now)
+    c.stored_geometry.result (c.stored_geometry.ensures c.in-Geo.field-0) x
+    (rw c.in-Geo.is at e)

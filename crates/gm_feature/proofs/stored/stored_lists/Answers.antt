@@ -11,5 +11,15 @@ returns-in-None c = λ g rest e len fine many is. absurd (has_extent g fine (sym
 pub returns-in-Some : goal.returns-in-Some
 returns-in-Some c = λ g rest e len fine many is.
     let extent = sym is ∙ c.in-Some.is in
-    let least = extent_is_least (points_of g) c.in-Some.bounds extent in
-    (g, record { kept = fine; many = many; same = c.front_of-bytes.ensures (geometry_bytes g) rest e len; extent = extent; least = least }, refl)
+    let least = extent_is_least (points_of g) c.in-Some.bounds extent in (
+      g,
+      record {
+        kept = fine;
+        many = many;
+        same = c.front_of-bytes.ensures (geometry_bytes g) rest e len;
+        extent = extent;
+        least =
+            least;
+      },
+      refl,
+    )

@@ -4,4 +4,5 @@ use Rattle.gm_feature.specs.Spelling.{points_bytes}
 use Rattle.gm_feature.proofs.writer.put_lines.Given as goal
 
 abbrev pub invariant-lines : goal.invariant-lines
-invariant-lines l = l.bytes.items ≡ l.initial.bytes.items ++ flat_map points_bytes (take l.line-index l.line-items)
+invariant-lines l =
+    l.bytes.items ≡ l.initial.bytes.items ++ flat_map points_bytes (take l.line-index l.line-items)

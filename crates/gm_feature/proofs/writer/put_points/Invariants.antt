@@ -4,4 +4,5 @@ use Rattle.gm_feature.specs.Spelling.{point_bytes}
 use Rattle.gm_feature.proofs.writer.put_points.Given as goal
 
 abbrev pub invariant-points : goal.invariant-points
-invariant-points l = l.bytes.items ≡ l.initial.bytes.items ++ flat_map point_bytes (take l.point-index l.point-items)
+invariant-points l =
+    l.bytes.items ≡ l.initial.bytes.items ++ flat_map point_bytes (take l.point-index l.point-items)

@@ -7,7 +7,8 @@ pub are_all_passed-is_passed-requires : goal.are_all_passed-is_passed-requires
 are_all_passed-is_passed-requires t c = (
   search (rules, the_lemmas),
   (
-    next_suits c.args.stored.now.of.now c.args.filters.now c.members.filter-index c.filter-item.result c.members-test.true c.filter-item.is c.members.invariant.suits,
+    next_suits c.args.stored.now.of.now c.args.filters.now c.members.filter-index
+        c.filter-item.result c.members-test.true c.filter-item.is c.members.invariant.suits,
     c.requires.stored,
   ),
 )
@@ -16,7 +17,8 @@ pub is_any_passed-is_passed-requires : goal.is_any_passed-is_passed-requires
 is_any_passed-is_passed-requires t c = (
   search (rules, the_lemmas),
   (
-    next_suits c.args.stored.now.of.now c.args.filters.now c.members.filter-index c.filter-item.result c.members-test.true c.filter-item.is c.members.invariant.suits,
+    next_suits c.args.stored.now.of.now c.args.filters.now c.members.filter-index
+        c.filter-item.result c.members-test.true c.filter-item.is c.members.invariant.suits,
     c.requires.stored,
   ),
 )

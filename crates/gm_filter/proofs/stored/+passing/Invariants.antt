@@ -9,11 +9,15 @@ use Rattle.gm_filter.proofs.stored.+passing.Given as goal
 abbrev pub invariant-are_all_passed-members : goal.invariant-are_all_passed-members
 invariant-are_all_passed-members l = record {
   suits : all_suit l.stored.of.now (trees_of (map tree (drop l.filter-index l.filters))) ≡ true;
-  same : (f : Feature) → IsStored l.stored f → are_all_true f (trees_of (map tree (drop l.filter-index l.filters))) ≡ are_all_true f (trees_of (map tree l.filters));
+  same : (f : Feature) → IsStored l.stored f
+      → are_all_true f (trees_of (map tree (drop l.filter-index l.filters)))
+      ≡ are_all_true f (trees_of (map tree l.filters));
 }
 
 abbrev pub invariant-is_any_passed-members : goal.invariant-is_any_passed-members
 invariant-is_any_passed-members l = record {
   suits : all_suit l.stored.of.now (trees_of (map tree (drop l.filter-index l.filters))) ≡ true;
-  same : (f : Feature) → IsStored l.stored f → is_any_true f (trees_of (map tree (drop l.filter-index l.filters))) ≡ is_any_true f (trees_of (map tree l.filters));
+  same : (f : Feature) → IsStored l.stored f
+      → is_any_true f (trees_of (map tree (drop l.filter-index l.filters)))
+      ≡ is_any_true f (trees_of (map tree l.filters));
 }

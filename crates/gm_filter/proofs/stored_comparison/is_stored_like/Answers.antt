@@ -10,5 +10,6 @@ use Rattle.gm_filter.proofs.stored_comparison.is_stored_like.Goals as goal
 pub like-requires-clause-text_is_text : goal.like-requires-clause-text_is_text
 like-requires-clause-text_is_text c =
     let v = c.requires.0 in
-    let text : v ≡ value.Text c.in-Text.bytes.now = subst (λ (s : StoredValue). Says s v) c.in-Text.is c.requires.1 in
+    let text : v ≡ value.Text c.in-Text.bytes.now =
+    subst (λ (s : StoredValue). Says s v) c.in-Text.is c.requires.1 in
     sound_text c.in-Text.bytes.now (subst (λ (v : Value). is_sound v ≡ true) text c.requires.2)

@@ -10,5 +10,6 @@ returns-then-not-do_overlap c = λ g is.
     let one = c.args.geometry.now.bounds in
     let other = c.bounds.result in
     fails_with (do_overlap one other) (do_intersect g c.args.other.now) c.do_overlap.result
-    (λ met. c.overlaps_where_meeting.ensures g c.args.other.now one other is.kept c.requires is.least.holds c.bounds.ensures.least.holds met)
+    (λ met. c.overlaps_where_meeting.ensures g c.args.other.now one other is.kept c.requires
+    is.least.holds c.bounds.ensures.least.holds met)
     c.do_overlap.ensures (grind (arith, common_steps))

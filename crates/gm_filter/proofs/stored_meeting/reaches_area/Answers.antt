@@ -10,5 +10,6 @@ returns-then-not-do_overlap c = λ g is.
     let bounds = c.args.geometry.now.bounds in
     let area = c.args.area in
     fails_with (do_overlap bounds area) (do_intersect g (box_area area)) c.do_overlap.result
-    (λ met. c.overlaps_a_box_it_meets.ensures g bounds area is.kept is.least.holds c.requires.0 c.requires.1 met)
+    (λ met. c.overlaps_a_box_it_meets.ensures g bounds area is.kept is.least.holds c.requires.0
+    c.requires.1 met)
     c.do_overlap.ensures (grind (arith, common_steps))

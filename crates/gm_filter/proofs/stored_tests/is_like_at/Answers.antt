@@ -7,5 +7,8 @@ pub is_stored_like-requires : goal.is_stored_like-requires
 is_stored_like-requires c =
     let f = c.requires.feature in
     let is = c.requires.same in
-    let at = c.args.at in
-    (value_at f at, c.value.ensures f is, sound_at (kinds_of c.args.stored.now.of.now) f.values at is.fits.each)
+    let at = c.args.at in (
+      value_at f at,
+      c.value.ensures f is,
+      sound_at (kinds_of c.args.stored.now.of.now) f.values at is.fits.each,
+    )

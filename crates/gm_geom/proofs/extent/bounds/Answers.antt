@@ -5,7 +5,8 @@ use Rattle.gm_geom.proofs.Extents.{extent_is_least, extent_some}
 use Rattle.gm_geom.proofs.extent.bounds.Goals as goal
 
 pub unwrap-requires : goal.unwrap-requires
-unwrap-requires c = let P : Option Box2 → Type 0 = λ o. IsSome o in subst P (sym c.extent_of.ensures) (extent_some c.args.geometry.now c.requires)
+unwrap-requires c = let P : Option Box2 → Type 0 = λ o. IsSome o in
+    subst P (sym c.extent_of.ensures) (extent_some c.args.geometry.now c.requires)
 
 pub returns-clause-least : goal.returns-clause-least
 returns-clause-least c = extent_is_least _ _ (sym c.extent_of.ensures ∙ c.unwrap.ensures)

@@ -1,4 +1,5 @@
-use Rattle.gm_geom.proofs.Spelled.{number_is_spelled, one_number, fixed_is_spelled, none_is_spelled, big_is_spelled}
+use Rattle.gm_geom.proofs.Spelled.{number_is_spelled, one_number, fixed_is_spelled, none_is_spelled}
+use Rattle.gm_geom.proofs.Spelled.{big_is_spelled}
 use Rattle.gm_geom.proofs.laws.numbers_are_spelled.Goals as goal
 
 pub returns-clause-number : goal.returns-clause-number

@@ -8,5 +8,6 @@ places-preserved c =
     let e : c.places.places - 1 + 1 ≡ c.places.places = omega arith in record {
       some = omega arith;
       small = omega arith;
-      value = nearest_step c.places.number (c.places.places - 1) (omega arith) ∙ ap (λ k. nearest c.places.number (10 ^ k)) e ∙ c.places.invariant.value;
+      value = nearest_step c.places.number (c.places.places - 1) (omega arith)
+          ∙ ap (λ k. nearest c.places.number (10 ^ k)) e ∙ c.places.invariant.value;
     }

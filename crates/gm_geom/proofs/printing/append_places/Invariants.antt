@@ -8,7 +8,8 @@ invariant-places l = record {
   few : l.places ≤ 7;
   small : l.rest < 10 ^ l.places;
   kept : BeginsWith (string_bytes l.out) (string_bytes l.initial.out);
-  text : string_bytes l.out ++ places_of l.places l.rest ≡ string_bytes l.initial.out ++ places_of 7 l.initial.rest;
+  text : string_bytes l.out ++ places_of l.places l.rest
+      ≡ string_bytes l.initial.out ++ places_of 7 l.initial.rest;
 }
 
 abbrev pub decreases-places : goal.decreases-places

@@ -17,4 +17,5 @@ returns c =
     let three = c.in_ok-push_key-3.ensures ∙ ap (λ x. x ++ k Z3) two in
     let four = c.in_ok-push_key-4.ensures ∙ ap (λ x. x ++ k Xz2) three in
     let five = c.in_ok-push_key-5.ensures ∙ ap (λ x. x ++ k Xz3) four in
-    c.from_vec.ensures ∙ c.in_ok-push_value_keys.ensures ∙ ap (λ x. x ++ rest) five ∙ all_keys (k Id) (k Z2) (k Z3) (k Xz2) (k Xz3) rest ∙ sym (keys_as_parts t f)
+    c.from_vec.ensures ∙ c.in_ok-push_value_keys.ensures ∙ ap (λ x. x ++ rest) five
+    ∙ all_keys (k Id) (k Z2) (k Z3) (k Xz2) (k Xz3) rest ∙ sym (keys_as_parts t f)

@@ -10,8 +10,10 @@ returns-in_ok-code_key-in-Some c =
     let t = c.args.of.now in
     let f = c.args.feature.now in
     xz2_some t f c.in-Some.extent c.in_ok-code_key-in-Some.field-0 c.in-Some.ensures.value
-    (c.in_ok-code_key-in-Some.ensures ∙ ap (λ (code : ℕ). code_front (prefix_of t Xz2) (shard_of t f.id) code ++ f.id)
-    (c.xz2_code-code.ensures ∙ ap (λ (bits : ℕ). xz2_code bits c.in-Some.extent) c.precision.ensures.value))
+    (c.in_ok-code_key-in-Some.ensures
+    ∙ ap (λ (code : ℕ). code_front (prefix_of t Xz2) (shard_of t f.id) code ++ f.id)
+    (c.xz2_code-code.ensures
+    ∙ ap (λ (bits : ℕ). xz2_code bits c.in-Some.extent) c.precision.ensures.value))
 
 pub returns-in-None : goal.returns-in-None
 returns-in-None c = xz2_none c.args.of.now c.args.feature.now c.in-None.ensures.value

@@ -10,12 +10,19 @@ returns-in_ok-key-in-Some-bin_in c =
     let t = c.args.of.now in
     let f = c.args.feature.now in
     let bin = c.in-Some-bin_in.bin in
-    xz3_some t f c.in-Some.extent bin c.in_ok-key-in-Some-bin_in.key c.in-Some.ensures.value c.in-Some-bin_in.ensures.value
-    (c.in_ok-key-in-Some-bin_in.ensures ∙ ap (λ (code : ℕ). bin_code_front (prefix_of t Xz3) (shard_of t f.id) bin.number code ++ f.id)
-    (c.xz3_code-code.ensures ∙ (λ i. xz3_code (c.period.ensures i) (c.precision.ensures.value i) c.in-Some.extent bin.offset)))
+    xz3_some t f c.in-Some.extent bin c.in_ok-key-in-Some-bin_in.key c.in-Some.ensures.value
+    c.in-Some-bin_in.ensures.value
+    (c.in_ok-key-in-Some-bin_in.ensures
+    ∙ ap (λ (code : ℕ). bin_code_front (prefix_of t Xz3) (shard_of t f.id) bin.number
+    code ++ f.id)
+    (c.xz3_code-code.ensures
+    ∙ (λ i. xz3_code (c.period.ensures i) (c.precision.ensures.value i) c.in-Some.extent
+    bin.offset)))
 
 pub returns-in-None-bin_in : goal.returns-in-None-bin_in
-returns-in-None-bin_in c = xz3_no_bin c.args.of.now c.args.feature.now c.in-Some.extent c.in-Some.ensures.value c.in-None-bin_in.ensures.value
+returns-in-None-bin_in c =
+    xz3_no_bin c.args.of.now c.args.feature.now c.in-Some.extent c.in-Some.ensures.value
+    c.in-None-bin_in.ensures.value
 
 pub returns-in-None : goal.returns-in-None
 returns-in-None c = xz3_no_box c.args.of.now c.args.feature.now c.in-None.ensures.value

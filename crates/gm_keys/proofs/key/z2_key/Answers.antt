@@ -10,8 +10,10 @@ returns-in_ok-code_key-in-Some c =
     let t = c.args.of.now in
     let f = c.args.feature.now in
     z2_some t f c.in-Some.point c.in_ok-code_key-in-Some.field-0 c.in-Some.ensures.value
-    (c.in_ok-code_key-in-Some.ensures ∙ ap (λ (code : ℕ). code_front (prefix_of t Z2) (shard_of t f.id) code ++ f.id)
-    (c.z2_code-code.ensures ∙ ap (λ (bits : ℕ). z2_code bits c.in-Some.point) c.z2_bits.ensures.value))
+    (c.in_ok-code_key-in-Some.ensures
+    ∙ ap (λ (code : ℕ). code_front (prefix_of t Z2) (shard_of t f.id) code ++ f.id)
+    (c.z2_code-code.ensures
+    ∙ ap (λ (bits : ℕ). z2_code bits c.in-Some.point) c.z2_bits.ensures.value))
 
 pub returns-in-None : goal.returns-in-None
 returns-in-None c = z2_none c.args.of.now c.args.feature.now c.in-None.ensures.value

@@ -10,12 +10,19 @@ returns-in_ok-key-in-Some-bin_in c =
     let t = c.args.of.now in
     let f = c.args.feature.now in
     let bin = c.in-Some-bin_in.bin in
-    z3_some t f c.in-Some.point bin c.in_ok-key-in-Some-bin_in.key c.in-Some.ensures.value c.in-Some-bin_in.ensures.value
-    (c.in_ok-key-in-Some-bin_in.ensures ∙ ap (λ (code : ℕ). bin_code_front (prefix_of t Z3) (shard_of t f.id) bin.number code ++ f.id)
-    (c.z3_code-code.ensures ∙ (λ i. z3_code (c.period.ensures i) (c.z3_bits.ensures.value i) c.in-Some.point bin.offset)))
+    z3_some t f c.in-Some.point bin c.in_ok-key-in-Some-bin_in.key c.in-Some.ensures.value
+    c.in-Some-bin_in.ensures.value
+    (c.in_ok-key-in-Some-bin_in.ensures
+    ∙ ap (λ (code : ℕ). bin_code_front (prefix_of t Z3) (shard_of t f.id) bin.number
+    code ++ f.id)
+    (c.z3_code-code.ensures
+    ∙ (λ i. z3_code (c.period.ensures i) (c.z3_bits.ensures.value i) c.in-Some.point
+    bin.offset)))
 
 pub returns-in-None-bin_in : goal.returns-in-None-bin_in
-returns-in-None-bin_in c = z3_no_bin c.args.of.now c.args.feature.now c.in-Some.point c.in-Some.ensures.value c.in-None-bin_in.ensures.value
+returns-in-None-bin_in c =
+    z3_no_bin c.args.of.now c.args.feature.now c.in-Some.point c.in-Some.ensures.value
+    c.in-None-bin_in.ensures.value
 
 pub returns-in-None : goal.returns-in-None
 returns-in-None c = z3_no_point c.args.of.now c.args.feature.now c.in-None.ensures.value

@@ -4,4 +4,5 @@ use Rattle.gm_lexi.proofs.Raising.{within}
 use Rattle.gm_lexi.proofs.ends.begins_where_within.Goals as goal
 
 pub returns : goal.returns
-returns c = λ bytes other small. within bytes other (recursion_from_All (λ byte. byte < 256) (take (length bytes) other) small)
+returns c = λ bytes other small. within bytes other
+    (recursion_from_All (λ byte. byte < 256) (take (length bytes) other) small)

@@ -7,4 +7,6 @@ pub returns-clause-low : goal.returns-clause-low
 returns-clause-low c = low_by_front
 
 pub returns-clause-high : goal.returns-clause-high
-returns-clause-high c = λ high other small. high_by_front high other (recursion_from_All (λ byte. byte < 256) (take (length high) other) small)
+returns-clause-high c =
+    λ high other small. high_by_front high other
+    (recursion_from_All (λ byte. byte < 256) (take (length high) other) small)

@@ -9,7 +9,8 @@ pub returns-clause-longs : goal.returns-clause-longs
 returns-clause-longs c = no_long_is_a_front
 
 pub returns-clause-dates : goal.returns-clause-dates
-returns-clause-dates c = λ a b s t is is'. no_long_is_a_front a b s t (instant_fits a is) (instant_fits b is')
+returns-clause-dates c =
+    λ a b s t is is'. no_long_is_a_front a b s t (instant_fits a is) (instant_fits b is')
 
 pub returns-clause-texts : goal.returns-clause-texts
 returns-clause-texts c = no_text_is_a_front

@@ -9,7 +9,8 @@ pub returns-clause-longs : goal.returns-clause-longs
 returns-clause-longs c = longs_in_order
 
 pub returns-clause-dates : goal.returns-clause-dates
-returns-clause-dates c = λ a b s t is is'. longs_in_order a b s t (instant_fits a is) (instant_fits b is')
+returns-clause-dates c =
+    λ a b s t is is'. longs_in_order a b s t (instant_fits a is) (instant_fits b is')
 
 pub returns-clause-texts : goal.returns-clause-texts
 returns-clause-texts c = texts_in_order

@@ -6,12 +6,26 @@ use Rattle.gm_lexi.proofs.Flips.{int_read, int_only, int_is_long}
 use Rattle.gm_lexi.proofs.numbers.get_int.Goals as goal
 
 pub returns-then-from-lt4-clause-only : goal.returns-then-from-lt4-clause-only
-returns-then-from-lt4-clause-only c = λ value rest fits same. absurd (omega (arith, int_is_long c.args.from.now value rest same))
+returns-then-from-lt4-clause-only c =
+    λ value rest fits same. absurd (omega (arith, int_is_long c.args.from.now value rest same))
 
 pub returns-clause-found : goal.returns-clause-found
 returns-clause-found c =
-    let fits : SFits w32 (to_z w32 (of_z w32 c.cast_signed.result)) = subst (SFits w32) (sym (to_z-of_z w32 c.cast_signed.result (record { sfits = c.cast_signed.type_inv }))) (record { sfits = c.cast_signed.type_inv }) in
-    (fits, refl, int_read c.read_u32-value.result c.cast_signed.result c.args.from.now (omega arith) c.if-from-lt4.false (λ i. let fits : slice_index c.args.from.now i < 256 = omega (arith, c.type_inv.from i) in fits) c.read_u32-value.ensures c.cast_signed.ensures)
+    let fits : SFits w32 (to_z w32 (of_z w32 c.cast_signed.result)) =
+    subst (SFits w32)
+    (sym (to_z-of_z w32 c.cast_signed.result (record { sfits = c.cast_signed.type_inv })))
+    (record { sfits = c.cast_signed.type_inv }) in (
+      fits,
+      refl,
+      int_read c.read_u32-value.result c.cast_signed.result c.args.from.now (omega arith)
+          c.if-from-lt4.false
+          (λ i. let fits : slice_index c.args.from.now i < 256 =
+          omega (arith, c.type_inv.from i) in fits) c.read_u32-value.ensures
+          c.cast_signed.ensures,
+    )
 
 pub returns-clause-only : goal.returns-clause-only
-returns-clause-only c = λ value rest fits same. ap (λ v. Some (v, 4)) (int_only c.read_u32-value.result c.cast_signed.result c.args.from.now value rest c.read_u32-value.ensures c.cast_signed.ensures fits same)
+returns-clause-only c =
+    λ value rest fits same. ap (λ v. Some (v, 4))
+    (int_only c.read_u32-value.result c.cast_signed.result c.args.from.now value rest
+    c.read_u32-value.ensures c.cast_signed.ensures fits same)

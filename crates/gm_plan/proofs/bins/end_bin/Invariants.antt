@@ -7,5 +7,6 @@ abbrev pub invariant-intervals : goal.invariant-intervals
 invariant-intervals l = record {
   within : l.end ≤ last_of l.period + 1;
   none : (number : ℕ) → l.end ≤ number → number ≤ last_of l.period
-      → is_met l.period l.intervals number ≡ is_met l.period (drop l.interval-index l.intervals) number;
+      → is_met l.period l.intervals number
+      ≡ is_met l.period (drop l.interval-index l.intervals) number;
 }

@@ -12,5 +12,7 @@ returns-else-high-gt-LAST_MS-clause-none c =
     λ number low high.
     let less : c.number_of.result < number = omega arith in
     let few : c.number_of.result ≤ last_of c.args.period = omega arith in
-    none_behind_at c.args.period c.bins_follow_time.ensures.starts c.args.interval c.in-Some.high c.in-Some.is number c.number_of.result less
-    (at_high (last_ms c.args.period c.number_of.result) c.in-Some.high c.max.result fits (record { sfits = c.max.type_inv }) c.max.ensures.value (c.number_of.ensures.behind few))
+    none_behind_at c.args.period c.bins_follow_time.ensures.starts c.args.interval c.in-Some.high
+    c.in-Some.is number c.number_of.result less
+    (at_high (last_ms c.args.period c.number_of.result) c.in-Some.high c.max.result fits
+    (record { sfits = c.max.type_inv }) c.max.ensures.value (c.number_of.ensures.behind few))

@@ -6,5 +6,7 @@ use Rattle.gm_plan.proofs.bins.first_bin.Given as goal
 abbrev pub invariant-intervals : goal.invariant-intervals
 invariant-intervals l = record {
   within : l.first ≤ last_of l.period + 1;
-  none : (number : ℕ) → number < l.first → is_met l.period l.intervals number ≡ is_met l.period (drop l.interval-index l.intervals) number;
+  none : (number : ℕ) → number < l.first
+      → is_met l.period l.intervals number
+      ≡ is_met l.period (drop l.interval-index l.intervals) number;
 }

@@ -11,4 +11,5 @@ returns c =
     } in
     λ number s t target f holds suits applies some fits is.
     value_read laws s t target number f applies
-    (c.forms_and_more_are_in_ranges.ensures s t f number f.id suits fits is (c.identifiers_are_bytes.ensures f.id fits.identifier))
+    (c.forms_and_more_are_in_ranges.ensures s t f number f.id suits fits is
+    (c.identifiers_are_bytes.ensures f.id fits.identifier))

@@ -9,7 +9,8 @@ returns g c = record {
     ends = c.explained_runs_have_codes.ensures.ends;
     room = z_room g.row.D g.row.B c.requires;
     rise = c.explained_runs_rise.ensures.runs;
-    few = few_runs g.row.D (z_shape g.row.D g.row.B) c.stop_level_is_the_stop.ensures c.level_runs_are_level_sets.ensures;
+    few = few_runs g.row.D (z_shape g.row.D g.row.B) c.stop_level_is_the_stop.ensures
+        c.level_runs_are_level_sets.ensures;
   };
   covered = c.points_are_covered.ensures;
 }

@@ -8,7 +8,12 @@ returns c =
       boxes = c.geometries_are_in_boxes.ensures;
       values = c.fitting_features_have_values.ensures.value;
       rises = c.normal_rises.ensures;
-      codes = record { codes = c.keys_between_codes.ensures.codes; in_bin = c.keys_between_codes.ensures.in_bin; bins = c.keys_between_codes.ensures.bins };
+      codes = record {
+        codes = c.keys_between_codes.ensures.codes;
+        in_bin = c.keys_between_codes.ensures.in_bin;
+        bins =
+            c.keys_between_codes.ensures.bins;
+      };
       shards = record { few = c.shards_are_few.ensures };
     } in
     let times : TimeLaws = record {

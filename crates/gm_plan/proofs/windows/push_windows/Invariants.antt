@@ -5,5 +5,9 @@ use Rattle.gm_plan.proofs.windows.push_windows.Given as goal
 
 abbrev pub invariant-intervals : goal.invariant-intervals
 invariant-intervals l =
-    l.windows.items ++ map (window_in l.period l.bits l.number l.extent) (filter (meets_bin l.period l.number) (drop l.interval-index l.intervals))
-    ≡ l.fn.windows.items ++ map (window_in l.period l.bits l.number l.extent) (filter (meets_bin l.period l.number) l.intervals)
+    l.windows.items
+    ++ map (window_in l.period l.bits l.number l.extent)
+    (filter (meets_bin l.period l.number) (drop l.interval-index l.intervals))
+    ≡ l.fn.windows.items
+    ++ map (window_in l.period l.bits l.number l.extent)
+    (filter (meets_bin l.period l.number) l.intervals)

@@ -10,7 +10,9 @@ use Rattle.gm_plan.proofs.windows.window_in.Goals as goal
 
 pub offset_in-last-requires-clause-lies : goal.offset_in-last-requires-clause-lies
 offset_in-last-requires-clause-lies c =
-    subst (λ z. LiesIn c.args.period z c.args.number) (sym (to_z-of_z w64 c.end_in.result (record { sfits = c.end_in.type_inv }) ∙ c.end_in.ensures))
+    subst (λ z. LiesIn c.args.period z c.args.number)
+    (sym (to_z-of_z w64 c.end_in.result (record { sfits = c.end_in.type_inv })
+    ∙ c.end_in.ensures))
     (end_lies c.args.period c.args.number c.args.interval c.requires.met)
 
 pub returns : goal.returns
@@ -19,10 +21,27 @@ returns c =
     let b : SFits w32 c.args.extent.low.y = search rules in
     let d : SFits w32 c.args.extent.high.x = search rules in
     let e : SFits w32 c.args.extent.high.y = search rules in
-    let p = c.longitude_cell.ensures ∙ ap (longitude_cell c.args.bits) (to_z-of_z w32 c.args.extent.low.x a) in
-    let q = c.latitude_cell.ensures ∙ ap (latitude_cell c.args.bits) (to_z-of_z w32 c.args.extent.low.y b) in
-    let r = c.longitude_cell-2.ensures ∙ ap (longitude_cell c.args.bits) (to_z-of_z w32 c.args.extent.high.x d) in
-    let s = c.latitude_cell-2.ensures ∙ ap (latitude_cell c.args.bits) (to_z-of_z w32 c.args.extent.high.y e) in
-    let u = c.time_cell.ensures ∙ ap (time_cell c.args.period c.args.bits) (c.offset_in-first.ensures.offset ∙ ap (offset_in c.args.period c.args.number) (to_z-of_z w64 c.start_in.result (record { sfits = c.start_in.type_inv }) ∙ c.start_in.ensures)) in
-    let v = c.time_cell-2.ensures ∙ ap (time_cell c.args.period c.args.bits) (c.offset_in-last.ensures.offset ∙ ap (offset_in c.args.period c.args.number) (to_z-of_z w64 c.end_in.result (record { sfits = c.end_in.type_inv }) ∙ c.end_in.ensures)) in
-    λ i. record { low = record { x = p i; y = q i; t = u i }; high = record { x = r i; y = s i; t = v i } }
+    let p = c.longitude_cell.ensures
+    ∙ ap (longitude_cell c.args.bits) (to_z-of_z w32 c.args.extent.low.x a) in
+    let q = c.latitude_cell.ensures
+    ∙ ap (latitude_cell c.args.bits) (to_z-of_z w32 c.args.extent.low.y b) in
+    let r = c.longitude_cell-2.ensures
+    ∙ ap (longitude_cell c.args.bits) (to_z-of_z w32 c.args.extent.high.x d) in
+    let s = c.latitude_cell-2.ensures
+    ∙ ap (latitude_cell c.args.bits) (to_z-of_z w32 c.args.extent.high.y e) in
+    let u = c.time_cell.ensures
+    ∙ ap (time_cell c.args.period c.args.bits)
+    (c.offset_in-first.ensures.offset
+    ∙ ap (offset_in c.args.period c.args.number)
+    (to_z-of_z w64 c.start_in.result (record { sfits = c.start_in.type_inv })
+    ∙ c.start_in.ensures)) in
+    let v = c.time_cell-2.ensures
+    ∙ ap (time_cell c.args.period c.args.bits)
+    (c.offset_in-last.ensures.offset
+    ∙ ap (offset_in c.args.period c.args.number)
+    (to_z-of_z w64 c.end_in.result (record { sfits = c.end_in.type_inv })
+    ∙ c.end_in.ensures)) in
+    λ i. record {
+      low = record { x = p i; y = q i; t = u i };
+      high = record { x = r i; y = s i; t = v i };
+    }

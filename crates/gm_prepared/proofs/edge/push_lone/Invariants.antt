@@ -4,4 +4,6 @@ use Rattle.gm_prepared.specs.Edge.{tagged}
 use Rattle.gm_prepared.proofs.edge.push_lone.Given as goal
 
 abbrev pub invariant-points : goal.invariant-points
-invariant-points l = l.edges ++ tagged None (map lone_edge (drop l.point-index l.points)) ≡ l.initial.edges ++ tagged None (map lone_edge l.points)
+invariant-points l =
+    l.edges ++ tagged None (map lone_edge (drop l.point-index l.points))
+    ≡ l.initial.edges ++ tagged None (map lone_edge l.points)

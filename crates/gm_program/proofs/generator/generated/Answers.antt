@@ -6,7 +6,8 @@ use Rattle.gm_program.proofs.generator.generated.Goals as goal
 pub returns : goal.returns
 unfolding spec.generated_script
 returns c =
-    let whole : string_bytes c.append_counts.new.script ≡ spec.loading c.args.seed c.args.count ++ spec.counting =
+    let whole : string_bytes c.append_counts.new.script
+    ≡ spec.loading c.args.seed c.args.count ++ spec.counting =
     c.in_ok-append_counts.ensures ∙ ap (λ s. s ++ spec.counting) c.in_ok-script.ensures in
     let bytes : c.from_vec.result ≡ string_bytes c.append_counts.new.script = search rules in
     bytes ∙ whole

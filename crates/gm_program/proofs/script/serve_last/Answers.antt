@@ -4,14 +4,19 @@ use Rattle.gm_program.proofs.Streaming.{on_ok, on_err, closes_end, part_of_more,
 use Rattle.gm_program.proofs.script.serve_last.Goals as goal
 
 pub returns-in-Err-clause-err : goal.returns-in-Err-clause-err
-returns-in-Err-clause-err g c = λ start m is kept. part_of_more _ (said (end_turn c.args.setting (after c.args.setting m (last_line start))).reply) _ _ (c.in-Err.ensures.err start m is kept)
+returns-in-Err-clause-err g c =
+    λ start m is kept. part_of_more _
+    (said (end_turn c.args.setting (after c.args.setting m (last_line start))).reply) _ _
+    (c.in-Err.ensures.err start m is kept)
 
 pub returns-clause-ok : goal.returns-clause-ok
 returns-clause-ok g c = on_ok c.serve_end.result c.serve_end.ensures.ok (λ ended start m is kept.
     let served = c.in_default.ensures.ok start m is kept in
-    closes_end c.args.setting m (last_line start) _ _ _ served (ended (after c.args.setting m (last_line start)) served.keeps))
+    closes_end c.args.setting m (last_line start) _ _ _ served
+    (ended (after c.args.setting m (last_line start)) served.keeps))
 
 pub returns-clause-err : goal.returns-clause-err
 returns-clause-err g c = on_err c.serve_end.result c.serve_end.ensures.err (λ part start m is kept.
     let served = c.in_default.ensures.ok start m is kept in
-    part_behind _ (said (end_turn c.args.setting (after c.args.setting m (last_line start))).reply) _ _ _ served.written (part (after c.args.setting m (last_line start)) served.keeps))
+    part_behind _ (said (end_turn c.args.setting (after c.args.setting m (last_line start))).reply)
+    _ _ _ served.written (part (after c.args.setting m (last_line start)) served.keeps))

@@ -9,13 +9,18 @@ use Rattle.gm_program.proofs.Causes.{no_limit, no_read, cause_of_ok, cause_of_er
 use Rattle.gm_program.proofs.script.serve_next.Goals as goal
 
 pub returns-in_default-clause-breaks : goal.returns-in_default-clause-breaks
-returns-in_default-clause-breaks g c = λ start is. rw c.in_default.ensures.err (breaks_none c.args.setting ReadFault c.args.budget start _ _ (λ same. cc) c.requires.budget)
+returns-in_default-clause-breaks g c =
+    λ start is. rw c.in_default.ensures.err
+    (breaks_none c.args.setting ReadFault c.args.budget start _ _ (λ same. cc)
+    c.requires.budget)
 
 pub returns-then-n-budget-clause-breaks : goal.returns-then-n-budget-clause-breaks
 returns-then-n-budget-clause-breaks g c = λ start is. record {
   taken = take c.in-Ok.n c.read.new.into;
-  source = λ script told. let gives = c.in-Ok.ensures.bytes script told in (gives.rest, gives.parts, gives.stays);
-  part = λ m kept. part_none (replies c.args.setting m (complete_from start (take c.in-Ok.n c.read.new.into))) _;
+  source = λ script told. let gives = c.in-Ok.ensures.bytes script told in
+      (gives.rest, gives.parts, gives.stays);
+  part = λ m kept. part_none
+      (replies c.args.setting m (complete_from start (take c.in-Ok.n c.read.new.into))) _;
   whole = λ fault. absurd (cc);
   at_limit = λ _. grind (arith, common_steps);
   below_limit = λ other. absurd (other refl);
@@ -24,7 +29,8 @@ returns-then-n-budget-clause-breaks g c = λ start is. record {
 pub returns-in-Err-clause-breaks : goal.returns-in-Err-clause-breaks
 returns-in-Err-clause-breaks g c = λ start is. record {
   taken = take c.in-Ok.n c.read.new.into;
-  source = λ script told. let gives = c.in-Ok.ensures.bytes script told in (gives.rest, gives.parts, gives.stays);
+  source = λ script told. let gives = c.in-Ok.ensures.bytes script told in
+      (gives.rest, gives.parts, gives.stays);
   part = λ m kept. c.in-Err.ensures.err start m is kept;
   whole = λ fault. absurd (no_read c.in-Err.refusal c.stop_of.result c.stop_of.ensures fault);
   at_limit = λ limit. absurd (no_limit c.in-Err.refusal c.stop_of.result c.stop_of.ensures limit);
@@ -35,7 +41,8 @@ pub returns-clause-streams : goal.returns-clause-streams
 returns-clause-streams g c = λ start is. record {
   taken = take c.in-Ok.n c.read.new.into;
   count = grind (arith, common_steps);
-  source = λ script told. let gives = c.in-Ok.ensures.bytes script told in (gives.rest, gives.parts, gives.stays);
+  source = λ script told. let gives = c.in-Ok.ensures.bytes script told in
+      (gives.rest, gives.parts, gives.stays);
   holds = c.in_default-serve_piece.ensures.held start is;
   serves = λ m kept. c.in_default-serve_piece.ensures.ok start m is kept;
 }
@@ -43,17 +50,26 @@ returns-clause-streams g c = λ start is. record {
 pub returns-clause-end : goal.returns-clause-end
 returns-clause-end g c = λ none bytes is.
     let gives = c.in-Ok.ensures.bytes bytes is in
-    let rest : gives.rest ≡ [] = grind (arith, common_steps, gives.parts, gives.end (rw none refl)) in
+    let rest : gives.rest ≡ [] =
+    grind (arith, common_steps, gives.parts, gives.end (rw none refl)) in
     gives.stays ∙ ap Some rest
 
 pub returns-in_default-clause-cause : goal.returns-in_default-clause-cause
-returns-in_default-clause-cause g c = cause_of_err ReadFault _ _ _ _ c.read.ensures.later (omega arith) (λ _. c.in_default.ensures.cause) (λ is. absurd (cc))
+returns-in_default-clause-cause g c =
+    cause_of_err ReadFault _ _ _ _ c.read.ensures.later (omega arith)
+    (λ _. c.in_default.ensures.cause) (λ is. absurd (cc))
 
 pub returns-then-n-budget-clause-cause : goal.returns-then-n-budget-clause-cause
-returns-then-n-budget-clause-cause g c = cause_of_err TooLong _ _ _ _ c.read.ensures.later (omega arith) (λ is. absurd (cc)) (λ is. absurd (cc))
+returns-then-n-budget-clause-cause g c =
+    cause_of_err TooLong _ _ _ _ c.read.ensures.later (omega arith) (λ is. absurd (cc))
+    (λ is. absurd (cc))
 
 pub returns-in-Err-clause-cause : goal.returns-in-Err-clause-cause
-returns-in-Err-clause-cause g c = cause_of_refusal c.in-Err.refusal c.stop_of.result _ _ _ _ _ c.stop_of.ensures c.read.ensures.later (omega arith) c.serve_piece.ensures.later (λ is. c.in-Err.ensures.cause (ap Err is))
+returns-in-Err-clause-cause g c =
+    cause_of_refusal c.in-Err.refusal c.stop_of.result _ _ _ _ _ c.stop_of.ensures
+    c.read.ensures.later (omega arith) c.serve_piece.ensures.later
+    (λ is. c.in-Err.ensures.cause (ap Err is))
 
 pub returns-clause-cause : goal.returns-clause-cause
-returns-clause-cause g c = cause_of_ok c.in-Ok.n _ _ _ _ c.read.ensures.later c.serve_piece.ensures.later
+returns-clause-cause g c =
+    cause_of_ok c.in-Ok.n _ _ _ _ c.read.ensures.later c.serve_piece.ensures.later

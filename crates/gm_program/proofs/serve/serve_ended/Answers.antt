@@ -8,24 +8,32 @@ pub returns-then-is_empty-clause-ok : goal.returns-then-is_empty-clause-ok
 returns-then-is_empty-clause-ok g c =
     let empty : c.args.held.now.items ≡ [] = grind (arith, common_steps) in
     on_ok c.serve_line.result c.serve_line.ensures.ok
-    (λ served start m is kept. rw (none_held start (sym empty ∙ is)) (serves_cut_as c.args.setting m c.args.part.now _ _ _ (cut-part c.min.result c.args.part.now c.min.ensures) (served m kept)))
+    (λ served start m is kept. rw (none_held start (sym empty ∙ is))
+    (serves_cut_as c.args.setting m c.args.part.now _ _ _
+    (cut-part c.min.result c.args.part.now c.min.ensures) (served m kept)))
 
 pub returns-then-is_empty-clause-err : goal.returns-then-is_empty-clause-err
 returns-then-is_empty-clause-err g c =
     let empty : c.args.held.now.items ≡ [] = grind (arith, common_steps) in
     on_err c.serve_line.result c.serve_line.ensures.err
-    (λ part start m is kept. rw (none_held start (sym empty ∙ is)) (part_cut_as c.args.setting m c.args.part.now _ _ _ (cut-part c.min.result c.args.part.now c.min.ensures) (part m kept)))
+    (λ part start m is kept. rw (none_held start (sym empty ∙ is))
+    (part_cut_as c.args.setting m c.args.part.now _ _ _
+    (cut-part c.min.result c.args.part.now c.min.ensures) (part m kept)))
 
 pub returns-in-Err-clause-err : goal.returns-in-Err-clause-err
 returns-in-Err-clause-err g c = λ start m is kept. part_none _ _
 
 pub returns-in-Err-serve_line-clause-err : goal.returns-in-Err-serve_line-clause-err
 returns-in-Err-serve_line-clause-err g c = λ start m is kept.
-    part_cut_as c.args.setting m (start ++ c.args.part.now) c.deref.result.now _ _ (c.deref.ensures.value ∙ c.in_default.ensures start is) (c.in-Err-serve_line.ensures.err m kept)
+    part_cut_as c.args.setting m (start ++ c.args.part.now) c.deref.result.now _ _
+    (c.deref.ensures.value ∙ c.in_default.ensures start is)
+    (c.in-Err-serve_line.ensures.err m kept)
 
 pub returns-clause-ok : goal.returns-clause-ok
 returns-clause-ok g c = λ start m is kept.
-    serves_cut_as c.args.setting m (start ++ c.args.part.now) c.deref.result.now _ _ (c.deref.ensures.value ∙ c.in_default.ensures start is) (c.in_default-serve_line.ensures.ok m kept)
+    serves_cut_as c.args.setting m (start ++ c.args.part.now) c.deref.result.now _ _
+    (c.deref.ensures.value ∙ c.in_default.ensures start is)
+    (c.in_default-serve_line.ensures.ok m kept)
 
 pub returns-then-is_empty-clause-kept : goal.returns-then-is_empty-clause-kept
 returns-then-is_empty-clause-kept g c = c.serve_line.ensures.kept

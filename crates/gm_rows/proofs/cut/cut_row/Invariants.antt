@@ -6,5 +6,7 @@ use Rattle.gm_rows.proofs.cut.cut_row.Given as goal
 abbrev pub invariant-bytes : goal.invariant-bytes
 invariant-bytes l = record {
   low : l.start ≤ l.place;
-  same : cut_from [] [] l.row ≡ cut_from (map (λ f. f.now) l.fields.items) (slice_range l.row l.start l.place) (drop l.place l.row);
+  same : cut_from [] [] l.row
+      ≡ cut_from (map (λ f. f.now) l.fields.items) (slice_range l.row l.start l.place)
+      (drop l.place l.row);
 }

@@ -10,7 +10,10 @@ returns-in_default c = sym (no_number w32 c.args.field.now c.in_default.ensures.
 
 pub returns-in-Ok-parse : goal.returns-in-Ok-parse
 returns-in-Ok-parse c =
-    parsed_ok w32 c.in-Ok.text.now c.in-Ok-parse.number c.in-Ok-parse.ensures.value.0 ∙ ap (integer_of (hbits w32)) c.in-Ok.ensures.cases.0
+    parsed_ok w32 c.in-Ok.text.now c.in-Ok-parse.number c.in-Ok-parse.ensures.value.0
+    ∙ ap (integer_of (hbits w32)) c.in-Ok.ensures.cases.0
 
 pub returns-in-Err : goal.returns-in-Err
-returns-in-Err c = parsed_err w32 c.in-Ok.text.now c.in-Err.ensures.value.0 ∙ ap (integer_of (hbits w32)) c.in-Ok.ensures.cases.0
+returns-in-Err c =
+    parsed_err w32 c.in-Ok.text.now c.in-Err.ensures.value.0
+    ∙ ap (integer_of (hbits w32)) c.in-Ok.ensures.cases.0

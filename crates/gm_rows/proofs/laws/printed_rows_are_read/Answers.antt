@@ -8,6 +8,10 @@ returns c = row_read record {
   date_bytes = c.printed_instants_are_read.ensures.bytes;
   date_form = c.printed_instants_are_read.ensures.date;
   geometry_read = c.printed_is_spelled.ensures.reads_back;
-  geometry_some = λ g none. c.spelled_on_a_line.ensures.some (wkt.printed g) g (c.printed_is_spelled.ensures.spells g none);
-  geometry_line = λ g none. c.spelled_on_a_line.ensures.line (wkt.printed g) g (c.printed_is_spelled.ensures.spells g none);
+  geometry_some =
+      λ g none. c.spelled_on_a_line.ensures.some (wkt.printed g) g
+      (c.printed_is_spelled.ensures.spells g none);
+  geometry_line =
+      λ g none. c.spelled_on_a_line.ensures.line (wkt.printed g) g
+      (c.printed_is_spelled.ensures.spells g none);
 }

@@ -9,7 +9,11 @@ pub returns : goal.returns
 returns c = λ f is.
     let row = string_bytes c.args.into.now in
     let id = c.id.ensures f is in
-    let utf8 = subst IsUtf8 (sym id) (c.stored_texts_are_utf8.ensures.identifier c.args.stored.now f is) in
-    let first : string_bytes c.push_text.new.row ≡ row ++ printed f.id = c.in_ok-push_text.ensures utf8 ∙ ap (λ (t : List ℕ). row ++ printed t) id in
+    let utf8 = subst IsUtf8 (sym id)
+    (c.stored_texts_are_utf8.ensures.identifier c.args.stored.now f is) in
+    let first : string_bytes c.push_text.new.row ≡ row ++ printed f.id =
+    c.in_ok-push_text.ensures utf8 ∙ ap (λ (t : List ℕ). row ++ printed t) id in
     let rest = further (map field_of f.values) in
-    on_ok_weaker c.push_stored_values.result (λ e. e ∙ ap (λ (t : List ℕ). t ++ rest) first ∙ append_assoc row (printed f.id) rest) (c.push_stored_values.ensures f is)
+    on_ok_weaker c.push_stored_values.result
+    (λ e. e ∙ ap (λ (t : List ℕ). t ++ rest) first ∙ append_assoc row (printed f.id) rest)
+    (c.push_stored_values.ensures f is)

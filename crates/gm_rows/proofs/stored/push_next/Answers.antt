@@ -10,8 +10,11 @@ pub returns-in-Geometry-clause-pushed : goal.returns-in-Geometry-clause-pushed
 returns-in-Geometry-clause-pushed c = λ first others is.
     let there = rw c.in-Geometry.is at (c.next.ensures.value first others is) in
     let g = there.0 in
-    pushed_as c.push_stored_geometry.result (string_bytes c.args.row.now) (string_bytes c.push_stored_geometry.new.row) (printed (wkt.printed g)) first (value.Geo g) there.2 refl (c.push_stored_geometry.ensures g there.1)
+    pushed_as c.push_stored_geometry.result (string_bytes c.args.row.now)
+    (string_bytes c.push_stored_geometry.new.row) (printed (wkt.printed g)) first (value.Geo g)
+    there.2 refl (c.push_stored_geometry.ensures g there.1)
 
 pub returns-in_default-clause-pushed : goal.returns-in_default-clause-pushed
 returns-in_default-clause-pushed c = λ first others is.
-    c.push_stored_value.ensures first (c.next.ensures.value first others is) (c.next.ensures.sound first others is)
+    c.push_stored_value.ensures first (c.next.ensures.value first others is)
+    (c.next.ensures.sound first others is)

@@ -17,14 +17,16 @@ use Rattle.gm_rows.proofs.stored.push_stored_value.Goals as goal
 pub returns-in-Null : goal.returns-in-Null
 returns-in-Null c = λ v says sound.
     let is : v ≡ value.Null = rw c.in-Null.is at says in
-    sym (ap (λ (u : Value). string_bytes c.args.row.now ++ printed (field_of u)) is ∙ append-nil (string_bytes c.args.row.now))
+    sym (ap (λ (u : Value). string_bytes c.args.row.now ++ printed (field_of u)) is
+    ∙ append-nil (string_bytes c.args.row.now))
 
 pub returns-in-Text : goal.returns-in-Text
 returns-in-Text c = λ v says sound.
     let text = c.in-Text.text.now in
     let is : v ≡ value.Text text = rw c.in-Text.is at says in
     let utf8 = c.stored_texts_are_utf8.ensures.text text (ap is_sound (sym is) ∙ sound) in
-    pushed_as c.push_text.result (string_bytes c.args.row.now) (string_bytes c.push_text.new.row) (printed text) v (value.Text text) is refl (c.push_text.ensures utf8)
+    pushed_as c.push_text.result (string_bytes c.args.row.now) (string_bytes c.push_text.new.row)
+    (printed text) v (value.Text text) is refl (c.push_text.ensures utf8)
 
 pub returns-in-Integer : goal.returns-in-Integer
 returns-in-Integer c = λ v says sound.
@@ -32,7 +34,9 @@ returns-in-Integer c = λ v says sound.
     let is : v ≡ value.Integer number = rw c.in-Integer.is at says in
     let fits : FitsSigned w32 number = search rules in
     let same = ap (λ (z : ℤ). printed (signed_decimal z)) (to_z-of_z w32 number fits) in
-    pushed_as c.push_integer.result (string_bytes c.args.row.now) (string_bytes c.push_integer.new.row) _ v (value.Integer number) is same c.push_integer.ensures
+    pushed_as c.push_integer.result (string_bytes c.args.row.now)
+    (string_bytes c.push_integer.new.row) _ v (value.Integer number) is same
+    c.push_integer.ensures
 
 pub returns-in-Long : goal.returns-in-Long
 returns-in-Long c = λ v says sound.
@@ -40,32 +44,45 @@ returns-in-Long c = λ v says sound.
     let is : v ≡ value.Long number = rw c.in-Long.is at says in
     let fits : FitsSigned w64 number = search rules in
     let same = ap (λ (z : ℤ). printed (signed_decimal z)) (to_z-of_z w64 number fits) in
-    pushed_as c.push_long.result (string_bytes c.args.row.now) (string_bytes c.push_long.new.row) _ v (value.Long number) is same c.push_long.ensures
+    pushed_as c.push_long.result (string_bytes c.args.row.now) (string_bytes c.push_long.new.row) _
+    v (value.Long number) is same c.push_long.ensures
 
 pub returns-in-Boolean : goal.returns-in-Boolean
 returns-in-Boolean c = λ v says sound.
     let truth = c.in-Boolean.truth in
     let is : v ≡ value.Boolean truth = rw c.in-Boolean.is at says in
-    pushed_as c.push_field.result (string_bytes c.args.row.now) (string_bytes c.push_field.new.row) (printed c.truth_text.result.now) v (value.Boolean truth) is (ap printed c.truth_text.ensures) c.push_field.ensures
+    pushed_as c.push_field.result (string_bytes c.args.row.now) (string_bytes c.push_field.new.row)
+    (printed c.truth_text.result.now) v (value.Boolean truth) is
+    (ap printed c.truth_text.ensures) c.push_field.ensures
 
 pub returns-in-Date : goal.returns-in-Date
 returns-in-Date c = λ v says sound.
     let at = c.in-Date.at in
     let is : v ≡ value.Date at = rw c.in-Date.is at says in
     let instant = (c.instants_are_tested.ensures at).1 (ap is_sound (sym is) ∙ sound) in
-    let plain = unquoted is_instant_byte (record { comma = refl; quote = refl; return = refl; mark = refl }) (instant_text at) (c.printed_instants_are_read.ensures.bytes at instant) in
-    pushed_as c.append_instant.result (string_bytes c.args.row.now) (string_bytes c.append_instant.new.text) (instant_text at) v (value.Date at) is (sym plain) c.append_instant.ensures
+    let plain = unquoted is_instant_byte
+    (record { comma = refl; quote = refl; return = refl; mark = refl }) (instant_text at)
+    (c.printed_instants_are_read.ensures.bytes at instant) in
+    pushed_as c.append_instant.result (string_bytes c.args.row.now)
+    (string_bytes c.append_instant.new.text) (instant_text at) v (value.Date at) is (sym plain)
+    c.append_instant.ensures
 
 pub returns-in-Point : goal.returns-in-Point
 returns-in-Point c = λ v says sound.
     let point = c.in-Point.point in
     let kept = rw c.in-Point.is at says in
     let text = wkt.printed (geo.Point point) in
-    let plain = unquoted wkt.is_point_byte (record { comma = refl; quote = refl; return = refl; mark = refl }) text (c.points_are_plain.ensures point kept.0) in
-    pushed_as c.append_point.result (string_bytes c.args.row.now) (string_bytes c.append_point.new.out) text v (value.Geo (geo.Point point)) kept.1 (sym plain) c.append_point.ensures
+    let plain = unquoted wkt.is_point_byte
+    (record { comma = refl; quote = refl; return = refl; mark = refl }) text
+    (c.points_are_plain.ensures point kept.0) in
+    pushed_as c.append_point.result (string_bytes c.args.row.now)
+    (string_bytes c.append_point.new.out) text v (value.Geo (geo.Point point)) kept.1
+    (sym plain) c.append_point.ensures
 
 pub returns-in-Geometry : goal.returns-in-Geometry
 returns-in-Geometry c = λ v says sound.
     let there = rw c.in-Geometry.is at says in
     let g = there.0 in
-    pushed_as c.push_stored_geometry.result (string_bytes c.args.row.now) (string_bytes c.push_stored_geometry.new.row) (printed (wkt.printed g)) v (value.Geo g) there.2 refl (c.push_stored_geometry.ensures g there.1)
+    pushed_as c.push_stored_geometry.result (string_bytes c.args.row.now)
+    (string_bytes c.push_stored_geometry.new.row) (printed (wkt.printed g)) v (value.Geo g)
+    there.2 refl (c.push_stored_geometry.ensures g there.1)

@@ -12,16 +12,24 @@ pub values-preserved : goal.values-preserved
 values-preserved c = λ f is.
     let i = c.values.counter in
     let before = c.values.invariant f is in
-    let many = as_many c.args.stored.now.of.now c.attributes.result.now f.values c.attributes.ensures.list (c.fitting_features_have_values.ensures.count c.args.stored.now.of.now f is.fits) in
+    let many = as_many c.args.stored.now.of.now c.attributes.result.now f.values
+    c.attributes.ensures.list
+    (c.fitting_features_have_values.ensures.count c.args.stored.now.of.now f is.fits) in
     let low : i < length f.values = omega (arith, many, c.len-count.ensures, c.values-test.true) in
     let first = get_or f.values i value.Null in
     let others = drop (i + 1) f.values in
-    let there : AreStored c.values.left (first ∷ others) = subst (AreStored c.values.left) (from_place f.values i low) before.stored in
-    still_pushed c.values.left c.push_next.new.left f.values i (string_bytes c.values.row) (string_bytes c.push_str.new.self) (string_bytes c.push_next.new.row) _ low before
-    (c.push_next.ensures.rest first others there) c.in_ok-push_str.ensures.bytes (c.in_ok-push_next.ensures.pushed first others there)
+    let there : AreStored c.values.left (first ∷ others) =
+    subst (AreStored c.values.left) (from_place f.values i low) before.stored in
+    still_pushed c.values.left c.push_next.new.left f.values i (string_bytes c.values.row)
+    (string_bytes c.push_str.new.self) (string_bytes c.push_next.new.row) _ low before
+    (c.push_next.ensures.rest first others there) c.in_ok-push_str.ensures.bytes
+    (c.in_ok-push_next.ensures.pushed first others there)
 
 pub returns : goal.returns
 returns c = λ f is.
     let before = c.values.invariant f is in
-    let many = as_many c.args.stored.now.of.now c.attributes.result.now f.values c.attributes.ensures.list (c.fitting_features_have_values.ensures.count c.args.stored.now.of.now f is.fits) in
-    sym (pushed_all f.values c.values.counter (string_bytes c.values.row) (omega (arith, many, c.len-count.ensures, c.values-test.false))) ∙ before.same
+    let many = as_many c.args.stored.now.of.now c.attributes.result.now f.values
+    c.attributes.ensures.list
+    (c.fitting_features_have_values.ensures.count c.args.stored.now.of.now f is.fits) in
+    sym (pushed_all f.values c.values.counter (string_bytes c.values.row)
+    (omega (arith, many, c.len-count.ensures, c.values-test.false))) ∙ before.same

@@ -8,4 +8,5 @@ use Rattle.gm_rows.proofs.stored.push_stored_values.Given as goal
 
 abbrev pub invariant-values : goal.invariant-values
 invariant-values l = (f : Feature) → IsStored l.stored f
-    → ArePushed l.left (string_bytes l.row) (string_bytes l.fn.row ++ further (map field_of f.values)) (drop l.counter f.values)
+    → ArePushed l.left (string_bytes l.row)
+    (string_bytes l.fn.row ++ further (map field_of f.values)) (drop l.counter f.values)

@@ -6,7 +6,9 @@ use Rattle.gm_rows.proofs.stored.push_text.Goals as goal
 
 pub returns-in-Ok : goal.returns-in-Ok
 returns-in-Ok c = λ utf8.
-    IfOk-weaker c.push_field.result _ _ (λ x e. e ∙ ap (λ (t : List ℕ). string_bytes c.args.row.now ++ printed t) c.in-Ok.ensures.cases.0) c.push_field.ensures
+    IfOk-weaker c.push_field.result _ _
+    (λ x e. e ∙ ap (λ (t : List ℕ). string_bytes c.args.row.now ++ printed t)
+    c.in-Ok.ensures.cases.0) c.push_field.ensures
 
 pub returns-in-Err : goal.returns-in-Err
 returns-in-Err c = λ utf8. absurd (c.in-Err.ensures.cases.0 utf8)

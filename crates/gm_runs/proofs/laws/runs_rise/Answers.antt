@@ -8,4 +8,5 @@ returns-clause-rise c = λ runs i are less. run_rises 0 runs i (0, 0) are less
 pub returns-clause-apart : goal.returns-clause-apart
 returns-clause-apart c = λ runs i are less.
     let e : suc i ≡ i + 1 = omega arith in
-    subst (λ k. (get_or runs i (0, 0)).1 + 1 < (get_or runs k (0, 0)).0) e (next_apart 0 runs i (0, 0) are (omega arith))
+    subst (λ k. (get_or runs i (0, 0)).1 + 1 < (get_or runs k (0, 0)).0) e
+    (next_apart 0 runs i (0, 0) are (omega arith))

@@ -1,4 +1,5 @@
-use Rattle.std.proofs.Common.{◌≡◌, ℕ, Bool, true, false, List, [], ◌∷◌, refl, sym, ap, ◌∙◌, Ok, append-nil, ◌||◌}
+use Rattle.std.proofs.Common.{◌≡◌, ℕ, Bool, true, false, List, [], ◌∷◌, refl, sym, ap, ◌∙◌, Ok}
+use Rattle.std.proofs.Common.{append-nil, ◌||◌}
 use Rattle.std.specs.Prelude.{codes, if◌then◌else◌, length}
 use Rattle.std.specs.List.{list_any}
 use Rattle.std.specs.Str.{is_utf8}
@@ -10,19 +11,23 @@ use Rattle.gm_script.proofs.LaidLines.{past_laid, without_end, is_short, read_la
 use Rattle.gm_script.specs.Laid.{IsOnLine, command_words}
 use Rattle.gm_script.specs.Line.{says_nothing, without_return}
 use Rattle.gm_script.specs.Order as order
-use Rattle.gm_script.specs.Reading.{reading, reading_of, command_in, command_of, create_of, put_of, delete_of, remove_of, modify_of, describe_of, ask_of, asks, refused}
+use Rattle.gm_script.specs.Reading.{reading, reading_of, command_in, command_of, create_of, put_of}
+use Rattle.gm_script.specs.Reading.{delete_of, remove_of, modify_of, describe_of, ask_of, asks}
+use Rattle.gm_script.specs.Reading.{refused}
 use Rattle.gm_script.specs.Words.{past_blanks}
 use Rattle.gm_script.proofs.laws.lines_are_read.Goals as goal
 
 of_text : (types : List Specification) (text line : List ℕ) → IsOnLine text line
     → reading types line ≡ reading_of types text
-of_text types text line h = is_short types line h.short ∙ ap (reading_of types) (without_end text line h)
+of_text types text line h =
+    is_short types line h.short ∙ ap (reading_of types) (without_end text line h)
 
 silent : (types : List Specification) (text line : List ℕ) → IsOnLine text line
     → says_nothing (past_blanks text) ≡ true → reading types line ≡ Ok order.nothing
 silent types text line h e =
     of_text types text line h
-    ∙ ap (λ b. if b then Ok order.nothing else if is_utf8 text then command_in types text else refused E02) e
+    ∙ ap (λ b. if b then Ok order.nothing else if is_utf8 text then command_in types text
+    else refused E02) e
 
 or_none : (a b : Bool) → (a || b) ≡ false → (a ≡ false) × (b ≡ false)
 or_none true b e = absurd (cc)
@@ -31,7 +36,8 @@ or_none false b e = (refl, e)
 skip : {R : Type 0} (b : Bool) (x y : R) → b ≡ false → (if b then x else y) ≡ y
 skip b x y e = ap (λ b. if b then x else y) e
 
-none_of : (types : List Specification) (word name rest : List ℕ) → list_any (same_text word) command_words ≡ false
+none_of : (types : List Specification) (word name rest : List ℕ)
+    → list_any (same_text word) command_words ≡ false
     → command_of types word name rest ≡ refused E03
 none_of types word name rest e =
     let a = or_none (same_text word (codes "create")) _ e in
@@ -56,7 +62,8 @@ none_of types word name rest e =
 pub returns-clause-long : goal.returns-clause-long
 unfolding reading
 returns-clause-long c = λ types line h.
-    ap (λ b. if b then refused E01 else reading_of types (without_return line)) (lt-ltb 1048576 (length line) h)
+    ap (λ b. if b then refused E01 else reading_of types (without_return line))
+    (lt-ltb 1048576 (length line) h)
 
 pub returns-clause-blank : goal.returns-clause-blank
 returns-clause-blank c = λ types text line h blanks.
@@ -71,9 +78,11 @@ returns-clause-comment c = λ types blanks more text line h are e.
 pub returns-clause-bytes : goal.returns-clause-bytes
 returns-clause-bytes c = λ types blanks more text line byte h are shown other e wrong.
     let says : says_nothing (past_blanks text) ≡ false
-    = ap (λ t. says_nothing (past_blanks t)) e ∙ ap says_nothing (past_laid blanks (byte ∷ more) are shown) ∙ other in
+    = ap (λ t. says_nothing (past_blanks t)) e
+    ∙ ap says_nothing (past_laid blanks (byte ∷ more) are shown) ∙ other in
     of_text types text line h
-    ∙ ap (λ b. if b then Ok order.nothing else if is_utf8 text then command_in types text else refused E02) says
+    ∙ ap (λ b. if b then Ok order.nothing else if is_utf8 text then command_in types text
+    else refused E02) says
     ∙ ap (λ b. if b then command_in types text else refused E02) wrong
 
 pub returns-clause-unknown : goal.returns-clause-unknown

@@ -7,7 +7,8 @@ use Rattle.gm_script.specs.Reading.{ask_read, ask_with, asks}
 use Rattle.gm_script.proofs.laws.questions_are_read.Goals as goal
 
 pub returns-clause-form : goal.returns-clause-form
-returns-clause-form c = λ types q name text line hint digits h. read_unformed types q name hint digits text line h
+returns-clause-form c =
+    λ types q name text line hint digits h. read_unformed types q name hint digits text line h
 
 pub returns-clause-no_type : goal.returns-clause-no_type
 returns-clause-no_type c = λ types q name text line hint digits target h none.

@@ -4,4 +4,5 @@ use Rattle.gm_script.specs.Words.{is_no_blank}
 use Rattle.gm_script.proofs.words.word_length.Given as goal
 
 abbrev pub invariant-bytes : goal.invariant-bytes
-invariant-bytes l = prefix_len is_no_blank l.text ≡ l.place + prefix_len is_no_blank (drop l.place l.text)
+invariant-bytes l =
+    prefix_len is_no_blank l.text ≡ l.place + prefix_len is_no_blank (drop l.place l.text)

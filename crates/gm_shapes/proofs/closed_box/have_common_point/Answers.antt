@@ -18,4 +18,6 @@ returns-else-reaches_into c =
     (has_vertex_in c.args.geometry.now.geometry.now (box_area c.args.closed.now.area))
     (has_vertex_in (box_area c.args.closed.now.area) c.args.geometry.now.geometry.now)
     c.reaches_into.ensures c.if-reaches_into.false
-    (c.any_point.ensures ∙ ap (λ corners. list_any (is_in_any (areas_of c.args.geometry.now.geometry.now)) corners) c.corners.ensures)
+    (c.any_point.ensures
+    ∙ ap (λ corners. list_any (is_in_any (areas_of c.args.geometry.now.geometry.now)) corners)
+    c.corners.ensures)

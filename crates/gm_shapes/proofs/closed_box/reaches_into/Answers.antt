@@ -4,4 +4,7 @@ use Rattle.gm_shapes.proofs.closed_box.reaches_into.Goals as goal
 
 pub returns-then-any_vertex : goal.returns-then-any_vertex
 returns-then-any_vertex c =
-    by_second c.any_vertex.result (has_edge_on c.args.geometry.now (box_area c.args.closed.now.area)) (has_vertex_in c.args.geometry.now (box_area c.args.closed.now.area)) c.any_vertex.ensures c.if-any_vertex.true
+    by_second c.any_vertex.result
+    (has_edge_on c.args.geometry.now (box_area c.args.closed.now.area))
+    (has_vertex_in c.args.geometry.now (box_area c.args.closed.now.area))
+    c.any_vertex.ensures c.if-any_vertex.true

@@ -5,4 +5,6 @@ use Rattle.gm_geom.specs.Geometry.{joined}
 use Rattle.gm_shapes.proofs.edge.any_around.Given as goal
 
 abbrev pub invariant-areas : goal.invariant-areas
-invariant-areas g l = list_any (g.S.Shape.met l.shape) (edges_between_all (joined (take l.rings-index l.rings-items))) ≡ false
+invariant-areas g l =
+    list_any (g.S.Shape.met l.shape) (edges_between_all (joined (take l.rings-index l.rings-items)))
+    ≡ false

@@ -4,4 +4,6 @@ use Rattle.gm_shapes.specs.Edge.{edges_from}
 use Rattle.gm_shapes.proofs.edge.any_from.Given as goal
 
 abbrev pub invariant-points : goal.invariant-points
-invariant-points g l = list_any (g.S.Shape.met l.shape) (edges_from l.initial.start l.points) ≡ list_any (g.S.Shape.met l.shape) (edges_from l.start (drop l.point-index l.points))
+invariant-points g l =
+    list_any (g.S.Shape.met l.shape) (edges_from l.initial.start l.points)
+    ≡ list_any (g.S.Shape.met l.shape) (edges_from l.start (drop l.point-index l.points))

@@ -8,4 +8,5 @@ returns g c = λ ws target low high some are_low are_high meet.
     let G = g.row.G in
     let path = sequence_of G (level_of G low high) low in
     let is = c.object_is_in_reach.ensures low high are_low are_high in
-    c.explained_runs_cover.ensures ws target (xz_code D G low high) path some (object_is_node D G low high path is) (object_meets D G ws low high path is meet)
+    c.explained_runs_cover.ensures ws target (xz_code D G low high) path some
+    (object_is_node D G low high path is) (object_meets D G ws low high path is meet)

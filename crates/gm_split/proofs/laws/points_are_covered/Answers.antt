@@ -9,4 +9,5 @@ returns g c = λ ws target at some are meet.
     let B = g.row.B in
     let path = sequence_of B B at in
     let is = c.z_cell_by_code.ensures at are in
-    c.explained_runs_cover.ensures ws target (z_code D B at) path some (cell_is_node D B at path is) (cell_meets D B ws at path is meet)
+    c.explained_runs_cover.ensures ws target (z_code D B at) path some (cell_is_node D B at path is)
+    (cell_meets D B ws at path is meet)

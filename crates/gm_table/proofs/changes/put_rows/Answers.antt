@@ -1,4 +1,5 @@
-use Rattle.std.proofs.Common.{◌≡◌, ◌∙◌, ◌++◌, ◌∷◌, [], ◌+◌, ◌<◌, ap, sym, refl, arith, take, length, get_or}
+use Rattle.std.proofs.Common.{◌≡◌, ◌∙◌, ◌++◌, ◌∷◌, [], ◌+◌, ◌<◌, ap, sym, refl, arith, take, length}
+use Rattle.std.proofs.Common.{get_or}
 use Rattle.std.proofs.lemmas.Grind.{common_steps}
 use Rattle.std.proofs.lemmas.List.{take_more}
 use Rattle.gm_table.specs.Sorted.{at_key}
@@ -12,7 +13,9 @@ use Rattle.gm_table.proofs.changes.put_rows.Goals as goal
 pub loop-put-init : goal.loop-put-init
 loop-put-init c = record {
   put = λ key. refl;
-  undone = λ key. ap (λ olds. undone_at key c.args.puts.now olds (at_key key c.args.map.now.entries)) c.in_ok-olds.ensures.items;
+  undone = λ key. ap
+      (λ olds. undone_at key c.args.puts.now olds (at_key key c.args.map.now.entries))
+      c.in_ok-olds.ensures.items;
   count = ap length c.in_ok-olds.ensures.items;
   room = c.in_ok-olds.ensures.exact;
   rising = c.requires;
@@ -20,25 +23,40 @@ loop-put-init c = record {
 
 -- what was put in before is taken back
 pub returns-in-Err-clause-err : goal.returns-in-Err-clause-err
-returns-in-Err-clause-err c = same_rows _ _ c.take_back.ensures.rising c.requires (λ key. c.take_back.ensures.undone key
-    ∙ ap (λ rows. undone_at key c.args.puts.now c.loop-put.olds.items (at_key key rows)) c.in-Err.ensures.err
+returns-in-Err-clause-err c =
+    same_rows _ _ c.take_back.ensures.rising c.requires (λ key. c.take_back.ensures.undone key
+    ∙ ap (λ rows. undone_at key c.args.puts.now c.loop-put.olds.items (at_key key rows))
+    c.in-Err.ensures.err
     ∙ c.loop-put.invariant.undone key)
 
 pub loop-put-preserved : goal.loop-put-preserved
 loop-put-preserved c =
     let item = c.put-item.result in
     let rows = c.loop-put.map.entries in
-    let more : take (c.loop-put.put-index + 1) c.args.puts.now ≡ take c.loop-put.put-index c.args.puts.now ++ item ∷ [] =
-    take_more _ _ item c.loop-put-test.true ∙ ap (λ it. take c.loop-put.put-index c.args.puts.now ++ it ∷ []) (sym c.put-item.is) in
-    let noted : c.push_reserved.new.self.items ≡ c.loop-put.olds.items ++ at_key item.key rows ∷ [] = c.push_reserved.ensures.items ∙ ap (λ old. c.loop-put.olds.items ++ old ∷ []) c.in-Ok.ensures.had in
-    let few : length c.loop-put.olds.items < length c.args.puts.now = omega (arith, c.loop-put.invariant.count, c.loop-put-test.true) in
+    let more : take (c.loop-put.put-index + 1) c.args.puts.now
+    ≡ take c.loop-put.put-index c.args.puts.now ++ item ∷ [] =
+    take_more _ _ item c.loop-put-test.true
+    ∙ ap (λ it. take c.loop-put.put-index c.args.puts.now ++ it ∷ []) (sym c.put-item.is) in
+    let noted : c.push_reserved.new.self.items
+    ≡ c.loop-put.olds.items ++ at_key item.key rows ∷ [] =
+    c.push_reserved.ensures.items
+    ∙ ap (λ old. c.loop-put.olds.items ++ old ∷ []) c.in-Ok.ensures.had in
+    let few : length c.loop-put.olds.items < length c.args.puts.now =
+    omega (arith, c.loop-put.invariant.count, c.loop-put-test.true) in
     record {
-      put = λ key. c.in-Ok.ensures.ok key ∙ ap (put_at key (item ∷ [])) (c.loop-put.invariant.put key)
-          ∙ sym (put_at-push key (take c.loop-put.put-index c.args.puts.now) item _) ∙ ap (λ puts. put_at key puts (at_key key c.args.map.now.entries)) (sym more);
-      undone = λ key. ap (λ olds. undone_at key c.args.puts.now olds (at_key key c.put_one.new.map.entries)) noted
-          ∙ undone_at-push key c.args.puts.now c.loop-put.olds.items item (at_key item.key rows) _ few (c.put-item.is ∙ ap (λ n. get_or c.args.puts.now n item) (sym c.loop-put.invariant.count))
-          ∙ ap (undone_at key c.args.puts.now c.loop-put.olds.items) (ap (restored_at key item.key (at_key item.key rows)) (c.in-Ok.ensures.ok key)
-          ∙ restored_at-put key item (at_key key rows) (at_key item.key rows) (λ same. ap (λ k. at_key k rows) (sym (same_key key item.key same))))
+      put = λ key. c.in-Ok.ensures.ok key
+          ∙ ap (put_at key (item ∷ [])) (c.loop-put.invariant.put key)
+          ∙ sym (put_at-push key (take c.loop-put.put-index c.args.puts.now) item _)
+          ∙ ap (λ puts. put_at key puts (at_key key c.args.map.now.entries)) (sym more);
+      undone = λ key. ap
+          (λ olds. undone_at key c.args.puts.now olds (at_key key c.put_one.new.map.entries)) noted
+          ∙ undone_at-push key c.args.puts.now c.loop-put.olds.items item (at_key item.key rows) _
+          few (c.put-item.is
+          ∙ ap (λ n. get_or c.args.puts.now n item) (sym c.loop-put.invariant.count))
+          ∙ ap (undone_at key c.args.puts.now c.loop-put.olds.items)
+          (ap (restored_at key item.key (at_key item.key rows)) (c.in-Ok.ensures.ok key)
+          ∙ restored_at-put key item (at_key key rows) (at_key item.key rows)
+          (λ same. ap (λ k. at_key k rows) (sym (same_key key item.key same))))
           ∙ c.loop-put.invariant.undone key;
       count = ap length noted ∙ grind (arith, common_steps);
       room = c.push_reserved.ensures.capacity ∙ c.loop-put.invariant.room;

@@ -7,8 +7,11 @@ use Rattle.gm_table.proofs.changes.put_rows.Given as goal
 
 abbrev pub invariant-loop-put : goal.invariant-loop-put
 invariant-loop-put l = record {
-  put : (key : List ℕ) → at_key key l.map.entries ≡ put_at key (take l.put-index l.puts) (at_key key l.fn.map.entries);
-  undone : (key : List ℕ) → undone_at key l.puts l.olds.items (at_key key l.map.entries) ≡ at_key key l.fn.map.entries;
+  put : (key : List ℕ)
+      → at_key key l.map.entries
+      ≡ put_at key (take l.put-index l.puts) (at_key key l.fn.map.entries);
+  undone : (key : List ℕ)
+      → undone_at key l.puts l.olds.items (at_key key l.map.entries) ≡ at_key key l.fn.map.entries;
   count : length l.olds.items ≡ l.put-index;
   room : vec_capacity l.olds ≡ length l.puts;
   rising : IsRising l.map.entries;

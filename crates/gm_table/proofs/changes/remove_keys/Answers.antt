@@ -6,9 +6,17 @@ use Rattle.gm_table.proofs.changes.remove_keys.Goals as goal
 
 pub loop-key-preserved : goal.loop-key-preserved
 loop-key-preserved c =
-    let more : take (c.loop-key.key-index + 1) c.args.keys.now ≡ take c.loop-key.key-index c.args.keys.now ++ c.key-item.result ∷ [] =
-    take_more _ _ c.key-item.result c.loop-key-test.true ∙ ap (λ item. take c.loop-key.key-index c.args.keys.now ++ item ∷ []) (sym c.key-item.is) in
+    let more : take (c.loop-key.key-index + 1) c.args.keys.now
+    ≡ take c.loop-key.key-index c.args.keys.now ++ c.key-item.result ∷ [] =
+    take_more _ _ c.key-item.result c.loop-key-test.true
+    ∙ ap (λ item. take c.loop-key.key-index c.args.keys.now ++ item ∷ []) (sym c.key-item.is) in
     record {
-      removed = λ key. rw (more, removed-push key (take c.loop-key.key-index c.args.keys.now) c.key-item.result, turned key c.key-item.result, ← c.loop-key.invariant.removed key) (c.remove.ensures.updates.0 key);
+      removed = λ key. rw (
+        more,
+        removed-push key (take c.loop-key.key-index c.args.keys.now) c.key-item.result,
+        turned key c.key-item.result,
+        ← c.loop-key.invariant.removed key,
+      )
+          (c.remove.ensures.updates.0 key);
       rising = c.remove.ensures.ordered;
     }

@@ -6,6 +6,8 @@ use Rattle.gm_table.proofs.changes.remove_keys.Given as goal
 
 abbrev pub invariant-loop-key : goal.invariant-loop-key
 invariant-loop-key l = record {
-  removed : (key : List ℕ) → at_key key l.map.entries ≡ (if has_key key (take l.key-index l.keys) then None else at_key key l.fn.map.entries);
+  removed : (key : List ℕ)
+      → at_key key l.map.entries
+      ≡ (if has_key key (take l.key-index l.keys) then None else at_key key l.fn.map.entries);
   rising : IsRising l.map.entries;
 }

@@ -13,12 +13,17 @@ loop-old-preserved c =
     record {
       few = grind (arith, common_steps);
       undone = λ key. rw (c.restore.ensures.restored key, ← c.index-puts-len.is)
-          (sym (undone_at-push key c.args.puts.now c.pop.new.self.items c.index-puts-len.result c.in-Some.old _ few (c.index-puts-len.is ∙ ap (λ k. get_or c.args.puts.now k c.index-puts-len.result) count))
-          ∙ ap (λ olds. undone_at key c.args.puts.now olds (at_key key c.loop-old.map.entries)) (sym c.in-Some.ensures.items) ∙ c.loop-old.invariant.undone key);
+          (sym (undone_at-push key c.args.puts.now c.pop.new.self.items c.index-puts-len.result
+          c.in-Some.old _ few
+          (c.index-puts-len.is
+          ∙ ap (λ k. get_or c.args.puts.now k c.index-puts-len.result) count))
+          ∙ ap (λ olds. undone_at key c.args.puts.now olds (at_key key c.loop-old.map.entries))
+          (sym c.in-Some.ensures.items) ∙ c.loop-old.invariant.undone key);
       rising = c.restore.ensures.rising;
     }
 
 pub returns-clause-undone : goal.returns-clause-undone
 returns-clause-undone c = λ key.
     let none : c.loop-old.olds.items ≡ [] = no_length _ (grind (arith, common_steps)) in
-    sym (ap (λ olds. undone_at key c.args.puts.now olds (at_key key c.loop-old.map.entries)) none) ∙ c.loop-old.invariant.undone key
+    sym (ap (λ olds. undone_at key c.args.puts.now olds (at_key key c.loop-old.map.entries)) none)
+    ∙ c.loop-old.invariant.undone key

@@ -6,7 +6,9 @@ use Rattle.gm_table.proofs.changes.take_back.Given as goal
 abbrev pub invariant-loop-old : goal.invariant-loop-old
 invariant-loop-old l = record {
   few : length l.olds.items ≤ length l.puts;
-  undone : (key : List ℕ) → undone_at key l.puts l.olds.items (at_key key l.map.entries) ≡ undone_at key l.puts l.fn.olds.items (at_key key l.fn.map.entries);
+  undone : (key : List ℕ)
+      → undone_at key l.puts l.olds.items (at_key key l.map.entries)
+      ≡ undone_at key l.puts l.fn.olds.items (at_key key l.fn.map.entries);
   rising : IsRising l.map.entries;
 }
 

@@ -6,7 +6,9 @@ use Rattle.gm_table.proofs.cursor.hand_out.Given as goal
 
 abbrev pub invariant-few : goal.invariant-few
 invariant-few g l = record {
-  walk : Walk g.V.Visit.takes l.fn.visit l.visit l.high (pending l.fn.place l.fn.rest) (pending l.next l.rest) (tally_number l.fn.tally) (tally_number l.tally);
-  admits : All (λ row. g.V.Visit.admits l.visit row.0 row.1) (rows_below l.high (pending l.fn.place l.fn.rest));
+  walk : Walk g.V.Visit.takes l.fn.visit l.visit l.high (pending l.fn.place l.fn.rest)
+      (pending l.next l.rest) (tally_number l.fn.tally) (tally_number l.tally);
+  admits : All (λ row. g.V.Visit.admits l.visit row.0 row.1)
+      (rows_below l.high (pending l.fn.place l.fn.rest));
   last : IsLastOf (pending l.next l.rest) l.map.entries;
 }

@@ -7,8 +7,10 @@ use Rattle.gm_table.proofs.cursor.hand_out_all.Given as goal
 
 abbrev pub invariant-rows : goal.invariant-rows
 invariant-rows g l = record {
-  walk : Walk g.V.Visit.takes l.fn.visit l.visit l.high (pending l.fn.place l.fn.rest) (pending l.next l.rest) (tally_number l.fn.tally) (tally_number l.tally);
-  admits : All (λ row. g.V.Visit.admits l.visit row.0 row.1) (rows_below l.high (pending l.fn.place l.fn.rest));
+  walk : Walk g.V.Visit.takes l.fn.visit l.visit l.high (pending l.fn.place l.fn.rest)
+      (pending l.next l.rest) (tally_number l.fn.tally) (tally_number l.tally);
+  admits : All (λ row. g.V.Visit.admits l.visit row.0 row.1)
+      (rows_below l.high (pending l.fn.place l.fn.rest));
 }
 
 abbrev pub decreases-rows : goal.decreases-rows

@@ -5,4 +5,8 @@ use Rattle.gm_trees.proofs.cell.low_end.Goals as goal
 pub overflow_mul-result : goal.overflow_mul-result
 overflow_mul-result c =
     let few : c.args.below ≤ 31 = omega arith in
-    rw (low_side c.args.below few) (omega (arith, cell_fits c.args.index c.args.level c.args.below c.requires.index c.requires.few))
+    rw (low_side c.args.below few)
+    (omega (
+      arith,
+      cell_fits c.args.index c.args.level c.args.below c.requires.index c.requires.few,
+    ))

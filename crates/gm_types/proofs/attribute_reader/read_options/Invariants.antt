@@ -6,7 +6,8 @@ use Rattle.gm_types.proofs.attribute_reader.read_options.Given as goal
 
 abbrev pub invariant-parts : goal.invariant-parts
 invariant-parts l =
-    read_all (option_of l.kind) (parts_of 58 l.text) ≡ appended l.options (read_all (option_of l.kind) (parts_of 58 l.rest))
+    read_all (option_of l.kind) (parts_of 58 l.text)
+    ≡ appended l.options (read_all (option_of l.kind) (parts_of 58 l.rest))
 
 abbrev pub decreases-parts : goal.decreases-parts
 decreases-parts l = length l.rest

@@ -4,7 +4,8 @@ use Rattle.gm_types.specs.Reading.{is_starred}
 use Rattle.gm_types.proofs.attribute_reader.read_stars.Given as goal
 
 abbrev pub invariant-parts : goal.invariant-parts
-invariant-parts l = map is_starred (parts_of 44 l.text) ≡ l.stars.items ++ map is_starred (parts_of 44 l.rest)
+invariant-parts l =
+    map is_starred (parts_of 44 l.text) ≡ l.stars.items ++ map is_starred (parts_of 44 l.rest)
 
 abbrev pub decreases-parts : goal.decreases-parts
 decreases-parts l = length l.rest

@@ -4,4 +4,5 @@ use Rattle.gm_types.proofs.Noted.{AreNoted}
 use Rattle.gm_types.proofs.distinct.are_distinct_data.Given as goal
 
 abbrev pub invariant-loop-datum : goal.invariant-loop-datum
-invariant-loop-datum l = AreNoted l.seen (map (λ (datum : Datum). datum.key) (take l.datum-index l.given))
+invariant-loop-datum l =
+    AreNoted l.seen (map (λ (datum : Datum). datum.key) (take l.datum-index l.given))

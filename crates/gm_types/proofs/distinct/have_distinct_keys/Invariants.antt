@@ -4,4 +4,5 @@ use Rattle.gm_types.proofs.Noted.{AreNoted}
 use Rattle.gm_types.proofs.distinct.have_distinct_keys.Given as goal
 
 abbrev pub invariant-loop-option : goal.invariant-loop-option
-invariant-loop-option l = AreNoted l.seen (map (λ (option : AttributeOption). option.key) (take l.option-index l.options))
+invariant-loop-option l =
+    AreNoted l.seen (map (λ (option : AttributeOption). option.key) (take l.option-index l.options))

@@ -4,4 +4,6 @@ use Rattle.gm_types.proofs.Noted.{AreNoted}
 use Rattle.gm_types.proofs.distinct.have_distinct_names.Given as goal
 
 abbrev pub invariant-loop-attribute : goal.invariant-loop-attribute
-invariant-loop-attribute l = AreNoted l.seen (map (λ (attribute : Attribute). attribute.name) (take l.attribute-index l.attributes))
+invariant-loop-attribute l =
+    AreNoted l.seen
+    (map (λ (attribute : Attribute). attribute.name) (take l.attribute-index l.attributes))

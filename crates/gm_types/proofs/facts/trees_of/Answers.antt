@@ -4,4 +4,5 @@ use Rattle.gm_types.proofs.facts.trees_of.Goals as goal
 
 pub returns-in-Some-precision : goal.returns-in-Some-precision
 returns-in-Some-precision c =
-    told_trees (outlined c.args.outline.now) c.in-Some.shards c.in-Some-precision.precision c.in-Some.ensures c.in-Some-precision.ensures
+    told_trees (outlined c.args.outline.now) c.in-Some.shards c.in-Some-precision.precision
+    c.in-Some.ensures c.in-Some-precision.ensures

@@ -4,4 +4,5 @@ use Rattle.gm_types.specs.Index.{has_index, attribute_indexes}
 use Rattle.gm_types.proofs.indexes.add_attributes.Given as goal
 
 abbrev pub invariant-loop-number : goal.invariant-loop-number
-invariant-loop-number l = l.list ≡ l.fn.list ++ filter (has_index l.of) (attribute_indexes 0 l.number)
+invariant-loop-number l =
+    l.list ≡ l.fn.list ++ filter (has_index l.of) (attribute_indexes 0 l.number)

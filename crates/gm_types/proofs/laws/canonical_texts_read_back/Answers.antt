@@ -1,4 +1,5 @@
-use Rattle.gm_types.proofs.Canonical.{canonical_spells, canonical_read, canonical_once, canonical_tells}
+use Rattle.gm_types.proofs.Canonical.{canonical_spells, canonical_read, canonical_once}
+use Rattle.gm_types.proofs.Canonical.{canonical_tells}
 use Rattle.gm_types.proofs.laws.canonical_texts_read_back.Goals as goal
 
 pub returns-clause-spells : goal.returns-clause-spells
@@ -11,4 +12,5 @@ pub returns-clause-once : goal.returns-clause-once
 returns-clause-once c = λ t u typed e. canonical_once t u typed.valid e
 
 pub returns-clause-one : goal.returns-clause-one
-returns-clause-one c = λ t u a b name number text. canonical_tells t u a.valid b.valid name number text
+returns-clause-one c =
+    λ t u a b name number text. canonical_tells t u a.valid b.valid name number text

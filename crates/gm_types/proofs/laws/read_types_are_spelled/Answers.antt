@@ -6,4 +6,5 @@ pub returns-clause-spells : goal.returns-clause-spells
 returns-clause-spells c = read_is_spelled
 
 pub returns-clause-named : goal.returns-clause-named
-returns-clause-named c = λ name number text t e. let read = read_valid name number text t e in (read.name_is, read.number_is)
+returns-clause-named c = λ name number text t e. let read = read_valid name number text t e in
+    (read.name_is, read.number_is)

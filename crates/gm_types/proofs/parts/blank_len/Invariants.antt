@@ -4,4 +4,5 @@ use Rattle.gm_types.specs.Words.{is_blank}
 use Rattle.gm_types.proofs.parts.blank_len.Given as goal
 
 abbrev pub invariant-loop-place : goal.invariant-loop-place
-invariant-loop-place l = prefix_len is_blank l.text ≡ l.place + prefix_len is_blank (drop l.place l.text)
+invariant-loop-place l =
+    prefix_len is_blank l.text ≡ l.place + prefix_len is_blank (drop l.place l.text)

@@ -5,4 +5,5 @@ pub returns-then-len-text-clause-cut : goal.returns-then-len-text-clause-cut
 returns-then-len-text-clause-cut c = cut_none _ _ _ c.part_len-len.ensures.value c.if-len-text.true
 
 pub returns-clause-cut : goal.returns-clause-cut
-returns-clause-cut c = rw rest_whole (cut_some _ _ _ c.part_len-len.ensures.value c.if-len-text.false)
+returns-clause-cut c =
+    rw rest_whole (cut_some _ _ _ c.part_len-len.ensures.value c.if-len-text.false)

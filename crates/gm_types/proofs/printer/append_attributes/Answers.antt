@@ -7,10 +7,14 @@ use Rattle.gm_types.proofs.printer.append_attributes.Goals as goal
 pub loop-place-preserved : goal.loop-place-preserved
 loop-place-preserved c = let x = c.index-attributes-place.result in let i = c.loop-place.place in
     one_more (attributes_text c.args.geometry) c.args.attributes.now i x
-    (string_bytes c.args.out.now) (string_bytes c.loop-place.out) (string_bytes c.append_attribute.new.out)
+    (string_bytes c.args.out.now) (string_bytes c.loop-place.out)
+    (string_bytes c.append_attribute.new.out)
     (comma_before i ++ starred_text (is_place c.args.geometry i) x)
-    c.loop-place-test.true c.index-attributes-place.is (attribute_printed c.args.geometry c.args.attributes.now i x c.loop-place-test.true)
+    c.loop-place-test.true c.index-attributes-place.is
+    (attribute_printed c.args.geometry c.args.attributes.now i x c.loop-place-test.true)
     c.loop-place.invariant
-    (c.in_ok-append_attribute.ensures ∙ ap (λ b. string_bytes c.append_comma.new.out ++ starred_text b x) c.is_place.ensures
+    (c.in_ok-append_attribute.ensures
+    ∙ ap (λ b. string_bytes c.append_comma.new.out ++ starred_text b x) c.is_place.ensures
     ∙ ap (λ t. t ++ starred_text (is_place c.args.geometry i) x) c.in_ok-append_comma.ensures
-    ∙ append_assoc (string_bytes c.loop-place.out) (comma_before i) (starred_text (is_place c.args.geometry i) x))
+    ∙ append_assoc (string_bytes c.loop-place.out) (comma_before i)
+    (starred_text (is_place c.args.geometry i) x))

@@ -5,4 +5,7 @@ use Rattle.gm_types.proofs.printer.append_attributes.Given as goal
 
 abbrev pub invariant-loop-place : goal.invariant-loop-place
 invariant-loop-place l =
-    string_bytes l.out ≡ string_bytes l.fn.out ++ separated 0 (map written_attribute (canonical_attributes l.geometry 0 (take l.place l.attributes)))
+    string_bytes l.out
+    ≡ string_bytes l.fn.out
+    ++ separated 0
+    (map written_attribute (canonical_attributes l.geometry 0 (take l.place l.attributes)))

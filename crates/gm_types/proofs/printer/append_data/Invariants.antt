@@ -5,4 +5,6 @@ use Rattle.gm_types.proofs.printer.append_data.Given as goal
 
 abbrev pub invariant-loop-place : goal.invariant-loop-place
 invariant-loop-place l =
-    string_bytes l.out ≡ string_bytes l.fn.out ++ separated 0 (map written_datum (map canonical_datum (take l.place l.list)))
+    string_bytes l.out
+    ≡ string_bytes l.fn.out
+    ++ separated 0 (map written_datum (map canonical_datum (take l.place l.list)))

@@ -4,4 +4,5 @@ use Rattle.gm_types.specs.Spelling.{options_text}
 use Rattle.gm_types.proofs.printer.append_options.Given as goal
 
 abbrev pub invariant-loop-option : goal.invariant-loop-option
-invariant-loop-option l = string_bytes l.out ≡ string_bytes l.fn.out ++ options_text (take l.option-index l.options)
+invariant-loop-option l =
+    string_bytes l.out ≡ string_bytes l.fn.out ++ options_text (take l.option-index l.options)

@@ -4,4 +4,7 @@ use Rattle.gm_wkt.specs.Printing.{members_text, list_text}
 use Rattle.gm_wkt.proofs.printer.append_list.Given as goal
 
 abbrev pub invariant-items : goal.invariant-items
-invariant-items g l = string_bytes l.out ++ (members_text (g.T.Printed.text) l.first (drop l.item-index l.items) ++ 41 ∷ []) ≡ string_bytes l.fn.out ++ list_text (g.T.Printed.text) l.items
+invariant-items g l =
+    string_bytes l.out
+    ++ (members_text (g.T.Printed.text) l.first (drop l.item-index l.items) ++ 41 ∷ [])
+    ≡ string_bytes l.fn.out ++ list_text (g.T.Printed.text) l.items

@@ -4,4 +4,6 @@ use Rattle.gm_wkt.specs.Printing.{members_text, lone_text, list_text}
 use Rattle.gm_wkt.proofs.printer.append_lones.Given as goal
 
 abbrev pub invariant-points : goal.invariant-points
-invariant-points l = string_bytes l.out ++ (members_text lone_text l.first (drop l.point-index l.points) ++ 41 ∷ []) ≡ string_bytes l.fn.out ++ list_text lone_text l.points
+invariant-points l =
+    string_bytes l.out ++ (members_text lone_text l.first (drop l.point-index l.points) ++ 41 ∷ [])
+    ≡ string_bytes l.fn.out ++ list_text lone_text l.points

@@ -8,4 +8,7 @@ pub returns-clause-spells : goal.returns-clause-spells
 returns-clause-spells c = λ kept.
     let text : c.from_string.result ≡ printed c.args.geometry.now = search rules in
     let P : List ℕ → Type 0 = λ t. SpellsText t c.args.geometry.now in
-    subst P (sym text) (printed_spells (record { reads = c.reads_back.ensures; bytes = c.has_number_bytes.ensures }) c.args.geometry.now kept)
+    subst P (sym text)
+    (printed_spells
+    (record { reads = c.reads_back.ensures; bytes = c.has_number_bytes.ensures })
+    c.args.geometry.now kept)

@@ -8,4 +8,6 @@ use Rattle.gm_base.proofs.bytes.Bytes.append.Goals as goal
 pub invariant_of-self-else-before-lt-FRONT : goal.invariant_of-self-else-before-lt-FRONT
 invariant_of-self-else-before-lt-FRONT c =
     let enough : 16 ≤ length c.self.inside.items.items = grind (arith, common_steps) in
-    subst (IsFront c.self.inside.front) (sym c.in_ok-extend_from_slice.ensures.items) (IsFront-append c.self.inside.front c.self.inside.items.items c.args.more.now enough c.self.invariant)
+    subst (IsFront c.self.inside.front) (sym c.in_ok-extend_from_slice.ensures.items)
+    (IsFront-append c.self.inside.front c.self.inside.items.items c.args.more.now enough
+    c.self.invariant)

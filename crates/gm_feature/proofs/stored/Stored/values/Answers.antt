@@ -10,6 +10,8 @@ pub returns : goal.returns
 returns c = λ f is.
     let list = c.as_slice.ensures ∙ c.attributes.ensures.list in
     record {
-      fit = subst (λ (attributes : List Attribute). values_fit (kinds attributes) f.values ≡ true) (sym list) is.fits.each;
-      same = c.values_of.ensures (f.id, values_bytes f.values) (stored_identifier c.args.self.now f is);
+      fit = subst (λ (attributes : List Attribute). values_fit (kinds attributes) f.values ≡ true)
+          (sym list) is.fits.each;
+      same = c.values_of.ensures (f.id, values_bytes f.values)
+          (stored_identifier c.args.self.now f is);
     }

@@ -4,4 +4,7 @@ use Rattle.gm_outside.proofs.NextBytes.{gives_next}
 use Rattle.gm_outside.proofs.steady_source.SteadySourceSource.read.Goals as goal
 
 pub returns-clause-bytes : goal.returns-clause-bytes
-returns-clause-bytes c = gives_next c.args.self.now.bytes.items c.args.self.now.at c.give-n.result (take c.give-n.result c.give-n.new.into) (grind (arith, common_steps)) (grind (arith, common_steps)) (grind (arith, common_steps))
+returns-clause-bytes c =
+    gives_next c.args.self.now.bytes.items c.args.self.now.at c.give-n.result
+    (take c.give-n.result c.give-n.new.into) (grind (arith, common_steps))
+    (grind (arith, common_steps)) (grind (arith, common_steps))

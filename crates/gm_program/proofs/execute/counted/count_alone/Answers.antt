@@ -13,5 +13,15 @@ pub returns-clause-examined : goal.returns-clause-examined
 returns-clause-examined g c = λ s own.
     let total = rows_read c.args.of.now c.args.target (rows_of s) (chosen_of c.args.part.now) in
     let number : g.B.Tally.Counter.number c.count_part-count.new.tally ≡ total =
-    omega (arith, c.in_ok-matched.ensures.tally s own, c.part-counter.ensures, few_read c.args.of.now c.args.target (rows_of s) (chosen_of c.args.part.now) own.limits.rows) in
-    (c.rows-examined.ensures ∙ number, c.join.ensures ∙ ap (capped_sum (g.B.Tally.Counter.number c.args.tally.now)) (sym c.rows-examined.ensures))
+    omega (
+      arith,
+      c.in_ok-matched.ensures.tally s own,
+      c.part-counter.ensures,
+      few_read c.args.of.now c.args.target (rows_of s) (chosen_of c.args.part.now)
+          own.limits.rows,
+    ) in (
+      c.rows-examined.ensures ∙ number,
+      c.join.ensures
+          ∙ ap (capped_sum (g.B.Tally.Counter.number c.args.tally.now))
+          (sym c.rows-examined.ensures),
+    )

@@ -16,12 +16,18 @@ returns-in_default g c = λ s types holds typed.
     let n = c.args.of.now.number in
     let id = c.args.id in
     let before = g.B.Tally.Counter.number c.args.tally.now in
-    let bound : feature_at n id s ≡ None = sym (c.in_ok-old.ensures.held s types holds typed) ∙ c.in_default.is in
-    subst (λ (o : Option Feature). Executes (if is_some o then record { state = changed_in n id None s; reply = Some (reply.Deleted id); examined = 1 } else refused s E13 0)
-    (Some (reply.Refusal E13 None)) types (g.B.Sorted.rows c.args.table.now) before (g.B.Tally.Counter.number c.bound.new.tally)) (sym bound) (record {
+    let bound : feature_at n id s ≡ None =
+    sym (c.in_ok-old.ensures.held s types holds typed) ∙ c.in_default.is in
+    subst (λ (o : Option Feature). Executes
+    (if is_some o then record
+    { state = changed_in n id None s; reply = Some (reply.Deleted id); examined = 1 }
+    else refused s E13 0)
+    (Some (reply.Refusal E13 None)) types (g.B.Sorted.rows c.args.table.now) before
+    (g.B.Tally.Counter.number c.bound.new.tally)) (sym bound) (record {
       store = holds;
       reply = refl;
-      tally = c.in_ok-old.ensures.tally s types holds typed ∙ ap (λ o. capped_sum before (row_of_one o)) c.in_default.is;
+      tally = c.in_ok-old.ensures.tally s types holds typed
+          ∙ ap (λ o. capped_sum before (row_of_one o)) c.in_default.is;
     })
 
 pub returns : goal.returns
@@ -31,16 +37,29 @@ returns g c = λ s types holds typed.
     let id = c.args.id in
     let old = c.in-Some.old in
     let before = g.B.Tally.Counter.number c.args.tally.now in
-    let bound : feature_at n id s ≡ Some old = sym (c.in_ok-old.ensures.held s types holds typed) ∙ c.in-Some.is in
+    let bound : feature_at n id s ≡ Some old =
+    sym (c.in_ok-old.ensures.held s types holds typed) ∙ c.in-Some.is in
     let after : g.B.Sorted.rows c.apply.new.self ≡ rows_of (changed_in n id None s) =
-    rows_after c.rows_follow_a_change.ensures c.same_at_each_key.ensures c.rows_are_of_features.ensures.rising s n t id (Some old) None
-    (g.B.Sorted.rows c.args.table.now) (g.B.Sorted.rows c.apply.new.self) c.in_ok-batch.batch.removes c.in_ok-batch.batch.puts
-    holds.state typed (none_held t id) holds.same_rows (sym bound) c.in_ok-batch.ensures.removes c.in_ok-batch.ensures.puts
+    rows_after c.rows_follow_a_change.ensures c.same_at_each_key.ensures
+    c.rows_are_of_features.ensures.rising s n t id (Some old) None
+    (g.B.Sorted.rows c.args.table.now) (g.B.Sorted.rows c.apply.new.self)
+    c.in_ok-batch.batch.removes c.in_ok-batch.batch.puts
+    holds.state typed (none_held t id) holds.same_rows (sym bound) c.in_ok-batch.ensures.removes
+    c.in_ok-batch.ensures.puts
     (g.met.B.Sorted.rising c.apply.new.self) c.in_ok-apply.ensures.ok in
-    subst (λ (o : Option Feature). Executes (if is_some o then record { state = changed_in n id None s; reply = Some (reply.Deleted id); examined = 1 } else refused s E13 0)
-    (Some (reply.Deleted id)) types (g.B.Sorted.rows c.apply.new.self) before (g.B.Tally.Counter.number c.bound.new.tally)) (sym bound) (record {
-      store = holds_changed c.changes_keep_the_state.ensures.state c.changes_keep_the_state.ensures.types s n t id None types (g.B.Sorted.rows c.args.table.now) (g.B.Sorted.rows c.apply.new.self)
-          holds typed (none_held t id) (fewer c.changes_are_counted.ensures s n t id holds.state typed holds.limits.rows) after;
+    subst (λ (o : Option Feature). Executes
+    (if is_some o then record
+    { state = changed_in n id None s; reply = Some (reply.Deleted id); examined = 1 }
+    else refused s E13 0)
+    (Some (reply.Deleted id)) types (g.B.Sorted.rows c.apply.new.self) before
+    (g.B.Tally.Counter.number c.bound.new.tally)) (sym bound) (record {
+      store = holds_changed c.changes_keep_the_state.ensures.state
+          c.changes_keep_the_state.ensures.types s n t id None types
+          (g.B.Sorted.rows c.args.table.now) (g.B.Sorted.rows c.apply.new.self)
+          holds typed (none_held t id)
+          (fewer c.changes_are_counted.ensures s n t id holds.state typed holds.limits.rows)
+          after;
       reply = refl;
-      tally = c.in_ok-old.ensures.tally s types holds typed ∙ ap (λ o. capped_sum before (row_of_one o)) c.in-Some.is;
+      tally = c.in_ok-old.ensures.tally s types holds typed
+          ∙ ap (λ o. capped_sum before (row_of_one o)) c.in-Some.is;
     })

@@ -6,5 +6,6 @@ pub returns : goal.returns
 returns c =
     let sorted = c.sort_unstable.new.self.items in
     let once = c.dedup.new.self.items in
-    rows_are c.requires.0 c.args.found.now c.in_ok-rows.rows.items sorted once c.requires.1 c.in_ok-rows.ensures c.sort_unstable.ensures.permutation c.sort_unstable.ensures.sorted
+    rows_are c.requires.0 c.args.found.now c.in_ok-rows.rows.items sorted once c.requires.1
+    c.in_ok-rows.ensures c.sort_unstable.ensures.permutation c.sort_unstable.ensures.sorted
     (dedup_is are_same sorted once c.dedup.ensures.filtered)

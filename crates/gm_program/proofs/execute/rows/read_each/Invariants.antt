@@ -11,7 +11,11 @@ use Rattle.gm_program.proofs.execute.rows.read_each.Given as goal
 
 abbrev pub invariant-parts : goal.invariant-parts
 invariant-parts g l = record {
-  found : (s : State) → IsTypeOf s l.of (g.B.Sorted.rows l.table) → AreKept s l.of.number (tests_of (map chosen_of (take l.part-index l.parts))) l.keeping l.rows;
+  found : (s : State) → IsTypeOf s l.of (g.B.Sorted.rows l.table)
+      → AreKept s l.of.number (tests_of (map chosen_of (take l.part-index l.parts)))
+      l.keeping l.rows;
   tally : (s : State) → IsTypeOf s l.of (g.B.Sorted.rows l.table)
-      → g.B.Tally.Counter.number l.tally ≡ capped_sum (g.B.Tally.Counter.number l.fn.tally) (rows_examined l.of l.target (rows_of s) (map chosen_of (take l.part-index l.parts)));
+      → g.B.Tally.Counter.number l.tally
+      ≡ capped_sum (g.B.Tally.Counter.number l.fn.tally)
+      (rows_examined l.of l.target (rows_of s) (map chosen_of (take l.part-index l.parts)));
 }

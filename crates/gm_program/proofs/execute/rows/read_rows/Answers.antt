@@ -16,5 +16,16 @@ returns-clause-examined g c = λ s own.
     let parts = map chosen_of c.args.parts.now in
     let total = rows_examined t c.args.target (rows_of s) parts in
     let number : g.B.Tally.Counter.number c.read_each-read.new.tally ≡ total =
-    omega (arith, c.in_ok-read.ensures.tally s own, c.part-counter.ensures, few_examined t c.args.target (rows_of s) parts own.limits.rows, length-map chosen_of c.args.parts.now, c.requires.few) in
-    (c.rows-examined.ensures ∙ number, c.join.ensures ∙ ap (capped_sum (g.B.Tally.Counter.number c.args.tally.now)) (sym c.rows-examined.ensures))
+    omega (
+      arith,
+      c.in_ok-read.ensures.tally s own,
+      c.part-counter.ensures,
+      few_examined t c.args.target (rows_of s) parts own.limits.rows,
+      length-map chosen_of c.args.parts.now,
+      c.requires.few,
+    ) in (
+      c.rows-examined.ensures ∙ number,
+      c.join.ensures
+          ∙ ap (capped_sum (g.B.Tally.Counter.number c.args.tally.now))
+          (sym c.rows-examined.ensures),
+    )

@@ -5,4 +5,5 @@ use Rattle.gm_scan.specs.Texts.{has_text}
 use Rattle.gm_scan.proofs.identifiers.Identifiers.of.Given as goal
 
 abbrev pub invariant-texts : goal.invariant-texts
-invariant-texts l = (id : List ℕ) → has_text l.sorted id ≡ list_any (bytes_eq id) (take l.text-index l.plain)
+invariant-texts l =
+    (id : List ℕ) → has_text l.sorted id ≡ list_any (bytes_eq id) (take l.text-index l.plain)

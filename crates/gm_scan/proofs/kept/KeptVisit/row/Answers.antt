@@ -9,7 +9,8 @@ returns-then-not-branch c =
     record {
       same = refl;
       way = refl;
-      keeps = λ f are. kept_not it.keeping (filter_of it.trial.now) f it.rows _ (c.in_ok-passes.ensures f are) c.if-not-branch.true;
+      keeps = λ f are. kept_not it.keeping (filter_of it.trial.now) f it.rows _
+          (c.in_ok-passes.ensures f are) c.if-not-branch.true;
     }
 
 pub returns : goal.returns
@@ -19,6 +20,7 @@ returns c =
       same = refl;
       way = refl;
       keeps = λ f are. on_ok c.push.result
-          (kept_one it.keeping (filter_of it.trial.now) f it.rows _ _ _ _ (c.in_ok-passes.ensures f are) c.if-not-branch.false
+          (kept_one it.keeping (filter_of it.trial.now) f it.rows _ _ _ _
+          (c.in_ok-passes.ensures f are) c.if-not-branch.false
           (c.id-id.ensures f are) (c.kept_bytes.ensures f are.same)) c.push.ensures.ok;
     }

@@ -5,4 +5,5 @@ use Rattle.gm_scan.specs.Literals.{has_value}
 use Rattle.gm_scan.proofs.literals.Literals.of.Given as goal
 
 abbrev pub invariant-literals : goal.invariant-literals
-invariant-literals l = (v : Value) → has_value l.sorted v ≡ is_one_of v (take l.literal-index l.plain)
+invariant-literals l =
+    (v : Value) → has_value l.sorted v ≡ is_one_of v (take l.literal-index l.plain)

@@ -15,10 +15,15 @@ returns-then-not-do_overlap c = λ g is.
 pub returns-in-Some : goal.returns-in-Some
 returns-in-Some c = λ g is.
     let h = c.args.self.now.prepared in
-    c.meets.ensures ∙ ap (λ (other : Geometry). do_intersect h other) (some_is c.in-Some.geometry g (sym c.in-Some.is ∙ c.in_ok-geometry.ensures.only g is.kept is.same)) ∙ c.meeting_is_symmetric.ensures h g
+    c.meets.ensures
+    ∙ ap (λ (other : Geometry). do_intersect h other)
+    (some_is c.in-Some.geometry g
+    (sym c.in-Some.is ∙ c.in_ok-geometry.ensures.only g is.kept is.same))
+    ∙ c.meeting_is_symmetric.ensures h g
 
 pub returns-in-None : goal.returns-in-None
 returns-in-None c = λ g is.
     let none : Option Geometry = None in
-    let nothing : none ≡ Some g = sym c.in-None.is ∙ c.in_ok-geometry.ensures.only g is.kept is.same in
+    let nothing : none ≡ Some g =
+    sym c.in-None.is ∙ c.in_ok-geometry.ensures.only g is.kept is.same in
     absurd cc

@@ -8,4 +8,7 @@ returns-then-not-branch c = λ f are.
 
 pub returns : goal.returns
 returns c = λ f are.
-    IfOk-weaker c.from_bytes.result _ _ (λ o is. is ∙ ap (λ b. cond b (Some f) None) (sym c.if-not-branch.false ∙ c.in_ok-passes.ensures f are)) (c.from_bytes.ensures.only f are.fits are.same)
+    IfOk-weaker c.from_bytes.result _ _
+    (λ o is. is ∙ ap (λ b. cond b (Some f) None)
+    (sym c.if-not-branch.false ∙ c.in_ok-passes.ensures f are))
+    (c.from_bytes.ensures.only f are.fits are.same)

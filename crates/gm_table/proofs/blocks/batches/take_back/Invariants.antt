@@ -7,7 +7,10 @@ use Rattle.gm_table.proofs.blocks.batches.take_back.Given as goal
 abbrev pub invariant-loop-old : goal.invariant-loop-old
 invariant-loop-old l = record {
   few : length l.olds.items ≤ length l.puts;
-  undone : (key : List ℕ) → undone_at key l.puts l.olds.items (at_key key (rows_of (lists_of l.table.list.items))) ≡ undone_at key l.puts l.fn.olds.items (at_key key (rows_of (lists_of l.fn.table.list.items)));
+  undone : (key : List ℕ)
+      → undone_at key l.puts l.olds.items (at_key key (rows_of (lists_of l.table.list.items)))
+      ≡ undone_at key l.puts l.fn.olds.items
+      (at_key key (rows_of (lists_of l.fn.table.list.items)));
 }
 
 abbrev pub decreases-loop-old : goal.decreases-loop-old

@@ -18,8 +18,11 @@ returns-in-Ok-clause-ok c =
     let second = c.in-Ok.later in
     let kept = c.in_ok-reserve.ensures.items in
     let is : d ≡ get_or blocks n d = c.index_mut.ensures.value ∙ ap (λ xs. get_or xs n d) kept in
-    let room : IsOk c.insert.result = c.insert.ensures.succeeds (omega (arith, c.in_ok-reserve.ensures.ok)) in
-    let made : c.insert.new.self.items ≡ insert (set c.reserve.new.self.items n first) (n + 1) second = grind (arith, common_steps) in
+    let room : IsOk c.insert.result =
+    c.insert.ensures.succeeds (omega (arith, c.in_ok-reserve.ensures.ok)) in
+    let made : c.insert.new.self.items
+    ≡ insert (set c.reserve.new.self.items n first) (n + 1) second =
+    grind (arith, common_steps) in
     is_cut blocks c.insert.new.self.items n HALF first second d c.requires.within
     (made ∙ ap (λ xs. insert (set xs n first) (n + 1) second) kept)
     (c.in-Ok.ensures.front ∙ ap (λ (block : Block). take HALF block.rows) is)
@@ -33,4 +36,5 @@ returns-in-Err-clause-err c =
     let kept = c.in_ok-reserve.ensures.items in
     let is : d ≡ get_or blocks n d = c.index_mut.ensures.value ∙ ap (λ xs. get_or xs n d) kept in
     ap (λ xs. rows_of (lists_of (set xs n c.split.new.self))) kept
-    ∙ set_same blocks n c.split.new.self d c.requires.within (c.in-Err.ensures.err ∙ ap (λ (block : Block). block.rows) is)
+    ∙ set_same blocks n c.split.new.self d c.requires.within
+    (c.in-Err.ensures.err ∙ ap (λ (block : Block). block.rows) is)

@@ -10,8 +10,11 @@ returns-then-begins_block-clause-ok c =
     let old = c.args.list.now.items in
     let n = c.args.at.block in
     let row = c.args.at.row in
-    let none : rows_at n row old ≡ [] = subst (λ (blocks : List Block). rows_at n row blocks ≡ []) c.deref.ensures.value (c.begins_block.ensures.end c.if-begins_block.true) in
-    on_ok c.push_block.result _ _ (λ is. is ∙ end_behind old n row c.args.row none) c.push_block.ensures.ok
+    let none : rows_at n row old ≡ [] =
+    subst (λ (blocks : List Block). rows_at n row blocks ≡ []) c.deref.ensures.value
+    (c.begins_block.ensures.end c.if-begins_block.true) in
+    on_ok c.push_block.result _ _ (λ is. is ∙ end_behind old n row c.args.row none)
+    c.push_block.ensures.ok
 
 pub returns-clause-ok : goal.returns-clause-ok
 returns-clause-ok c =
@@ -24,9 +27,11 @@ returns-clause-ok c =
     let roomy = c.in_ok-roomy.ensures in
     on_ok c.insert.result _ _ (λ is.
     set_more blocks n row c.insert.new.self d put roomy.room.within
-    (subst (λ (block : Block). c.insert.new.self.rows ≡ insert block.rows row put) c.index_mut.ensures.value is)
+    (subst (λ (block : Block). c.insert.new.self.rows ≡ insert block.rows row put)
+    c.index_mut.ensures.value is)
     ∙ ap (λ some. some ++ pair_of put ∷ rows_at n row blocks) roomy.until
-    ∙ ap (λ some. rows_until c.args.at.block c.args.at.row old ++ pair_of put ∷ some) roomy.from) c.insert.ensures.ok
+    ∙ ap (λ some. rows_until c.args.at.block c.args.at.row old ++ pair_of put ∷ some) roomy.from)
+    c.insert.ensures.ok
 
 pub returns-clause-err : goal.returns-clause-err
 returns-clause-err c =

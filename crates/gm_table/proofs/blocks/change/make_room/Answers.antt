@@ -1,4 +1,5 @@
-use Rattle.std.proofs.Common.{◌≡◌, ◌+◌, ◌-◌, ◌<◌, ◌≤◌, suc, length, subst, sym, ap, ◌∙◌, get_or, arith}
+use Rattle.std.proofs.Common.{◌≡◌, ◌+◌, ◌-◌, ◌<◌, ◌≤◌, suc, length, subst, sym, ap, ◌∙◌, get_or}
+use Rattle.std.proofs.Common.{arith}
 use Rattle.std.proofs.lemmas.List.{get_or_default}
 use Rattle.gm_table.specs.declared.blocks.block.Block.{Block}
 use Rattle.gm_table.specs.declared.blocks.change.TheConstants.{HALF, MOST}
@@ -9,7 +10,13 @@ use Rattle.gm_table.proofs.BlockChanges.{place_within, same_first, same_second}
 use Rattle.gm_table.proofs.blocks.change.make_room.Goals as goal
 
 pub index-requires : goal.index-requires
-index-requires c = omega (arith, c.args.list.now.ok.0, place_within c.args.list.now.items c.args.at.block c.args.at.row c.requires.some c.requires.place)
+index-requires c =
+    omega (
+      arith,
+      c.args.list.now.ok.0,
+      place_within c.args.list.now.items c.args.at.block c.args.at.row c.requires.some
+          c.requires.place,
+    )
 
 pub returns-then-len-lt-MOST-clause-room : goal.returns-then-len-lt-MOST-clause-room
 returns-then-len-lt-MOST-clause-room c =
@@ -21,11 +28,15 @@ returns-then-len-lt-MOST-clause-room c =
     record {
       within = within;
       inside = λ e. place_bound blocks n row e c.requires.place within;
-      room = λ e. subst (λ (block : Block). length block.rows < most_rows) (c.index.ensures ∙ get_or_default blocks n d e within) (omega (arith, c.len.ensures, c.if-len-lt-MOST.true));
+      room = λ e. subst (λ (block : Block). length block.rows < most_rows)
+          (c.index.ensures ∙ get_or_default blocks n d e within)
+          (omega (arith, c.len.ensures, c.if-len-lt-MOST.true));
     }
 
 pub cut-requires-clause-within : goal.cut-requires-clause-within
-cut-requires-clause-within c = place_within c.args.list.now.items c.args.at.block c.args.at.row c.requires.some c.requires.place
+cut-requires-clause-within c =
+    place_within c.args.list.now.items c.args.at.block c.args.at.row c.requires.some
+    c.requires.place
 
 pub cut-requires-clause-many : goal.cut-requires-clause-many
 cut-requires-clause-many c = λ e.
@@ -34,7 +45,9 @@ cut-requires-clause-many c = λ e.
     let row = c.args.at.row in
     let d : Block = c.index.result.now in
     let within : n < length blocks = place_within blocks n row c.requires.some c.requires.place in
-    subst (λ (block : Block). MOST ≤ length block.rows) (c.index.ensures ∙ get_or_default blocks n d e within) (omega (arith, c.len.ensures, c.if-len-lt-MOST.false))
+    subst (λ (block : Block). MOST ≤ length block.rows)
+    (c.index.ensures ∙ get_or_default blocks n d e within)
+    (omega (arith, c.len.ensures, c.if-len-lt-MOST.false))
 
 pub returns-then-at-le-HALF-clause-room : goal.returns-then-at-le-HALF-clause-room
 returns-then-at-le-HALF-clause-room c =
@@ -43,8 +56,11 @@ returns-then-at-le-HALF-clause-room c =
     let row = c.args.at.row in
     let d : Block = c.index.result.now in
     let within : n < length blocks = place_within blocks n row c.requires.some c.requires.place in
-    let few : HALF ≤ length (get_or blocks n d).rows = subst (λ (block : Block). HALF ≤ length block.rows) c.index.ensures (omega (arith, c.len.ensures, c.if-len-lt-MOST.false)) in
-    let same = same_first blocks c.cut.new.list.items n HALF row d c.in_ok-cut.ensures.ok within c.if-at-le-HALF.true few (omega arith) in
+    let few : HALF ≤ length (get_or blocks n d).rows =
+    subst (λ (block : Block). HALF ≤ length block.rows) c.index.ensures
+    (omega (arith, c.len.ensures, c.if-len-lt-MOST.false)) in
+    let same = same_first blocks c.cut.new.list.items n HALF row d c.in_ok-cut.ensures.ok within
+    c.if-at-le-HALF.true few (omega arith) in
     same.room
 
 pub returns-then-at-le-HALF-clause-until : goal.returns-then-at-le-HALF-clause-until
@@ -54,8 +70,11 @@ returns-then-at-le-HALF-clause-until c =
     let row = c.args.at.row in
     let d : Block = c.index.result.now in
     let within : n < length blocks = place_within blocks n row c.requires.some c.requires.place in
-    let few : HALF ≤ length (get_or blocks n d).rows = subst (λ (block : Block). HALF ≤ length block.rows) c.index.ensures (omega (arith, c.len.ensures, c.if-len-lt-MOST.false)) in
-    let same = same_first blocks c.cut.new.list.items n HALF row d c.in_ok-cut.ensures.ok within c.if-at-le-HALF.true few (omega arith) in
+    let few : HALF ≤ length (get_or blocks n d).rows =
+    subst (λ (block : Block). HALF ≤ length block.rows) c.index.ensures
+    (omega (arith, c.len.ensures, c.if-len-lt-MOST.false)) in
+    let same = same_first blocks c.cut.new.list.items n HALF row d c.in_ok-cut.ensures.ok within
+    c.if-at-le-HALF.true few (omega arith) in
     same.until
 
 pub returns-then-at-le-HALF-clause-from : goal.returns-then-at-le-HALF-clause-from
@@ -65,12 +84,21 @@ returns-then-at-le-HALF-clause-from c =
     let row = c.args.at.row in
     let d : Block = c.index.result.now in
     let within : n < length blocks = place_within blocks n row c.requires.some c.requires.place in
-    let few : HALF ≤ length (get_or blocks n d).rows = subst (λ (block : Block). HALF ≤ length block.rows) c.index.ensures (omega (arith, c.len.ensures, c.if-len-lt-MOST.false)) in
-    let same = same_first blocks c.cut.new.list.items n HALF row d c.in_ok-cut.ensures.ok within c.if-at-le-HALF.true few (omega arith) in
+    let few : HALF ≤ length (get_or blocks n d).rows =
+    subst (λ (block : Block). HALF ≤ length block.rows) c.index.ensures
+    (omega (arith, c.len.ensures, c.if-len-lt-MOST.false)) in
+    let same = same_first blocks c.cut.new.list.items n HALF row d c.in_ok-cut.ensures.ok within
+    c.if-at-le-HALF.true few (omega arith) in
     same.from
 
 pub overflow_add-result : goal.overflow_add-result
-overflow_add-result c = omega (arith, c.args.list.now.ok.0, place_within c.args.list.now.items c.args.at.block c.args.at.row c.requires.some c.requires.place)
+overflow_add-result c =
+    omega (
+      arith,
+      c.args.list.now.ok.0,
+      place_within c.args.list.now.items c.args.at.block c.args.at.row c.requires.some
+          c.requires.place,
+    )
 
 pub returns-clause-room : goal.returns-clause-room
 returns-clause-room c =
@@ -81,7 +109,9 @@ returns-clause-room c =
     let within : n < length blocks = place_within blocks n row c.requires.some c.requires.place in
     let next : n + 1 ≡ suc n = omega arith in
     let size = (block_at blocks c.requires.each n d within).sized.few in
-    let same = same_second blocks c.cut.new.list.items n HALF (row - HALF) row d c.in_ok-cut.ensures.ok within (omega (arith, c.if-at-le-HALF.false)) (place_bound blocks n row d c.requires.place within) size (omega arith) in
+    let same = same_second blocks c.cut.new.list.items n HALF (row - HALF) row d
+    c.in_ok-cut.ensures.ok within (omega (arith, c.if-at-le-HALF.false))
+    (place_bound blocks n row d c.requires.place within) size (omega arith) in
     subst (λ k. HasRoom k (row - HALF) c.cut.new.list.items) (sym next) same.room
 
 pub returns-clause-until : goal.returns-clause-until
@@ -93,7 +123,9 @@ returns-clause-until c =
     let within : n < length blocks = place_within blocks n row c.requires.some c.requires.place in
     let next : n + 1 ≡ suc n = omega arith in
     let size = (block_at blocks c.requires.each n d within).sized.few in
-    let same = same_second blocks c.cut.new.list.items n HALF (row - HALF) row d c.in_ok-cut.ensures.ok within (omega (arith, c.if-at-le-HALF.false)) (place_bound blocks n row d c.requires.place within) size (omega arith) in
+    let same = same_second blocks c.cut.new.list.items n HALF (row - HALF) row d
+    c.in_ok-cut.ensures.ok within (omega (arith, c.if-at-le-HALF.false))
+    (place_bound blocks n row d c.requires.place within) size (omega arith) in
     ap (λ k. rows_until k (row - HALF) c.cut.new.list.items) next ∙ same.until
 
 pub returns-clause-from : goal.returns-clause-from
@@ -105,5 +137,7 @@ returns-clause-from c =
     let within : n < length blocks = place_within blocks n row c.requires.some c.requires.place in
     let next : n + 1 ≡ suc n = omega arith in
     let size = (block_at blocks c.requires.each n d within).sized.few in
-    let same = same_second blocks c.cut.new.list.items n HALF (row - HALF) row d c.in_ok-cut.ensures.ok within (omega (arith, c.if-at-le-HALF.false)) (place_bound blocks n row d c.requires.place within) size (omega arith) in
+    let same = same_second blocks c.cut.new.list.items n HALF (row - HALF) row d
+    c.in_ok-cut.ensures.ok within (omega (arith, c.if-at-le-HALF.false))
+    (place_bound blocks n row d c.requires.place within) size (omega arith) in
     ap (λ k. rows_at k (row - HALF) c.cut.new.list.items) next ∙ same.from

@@ -10,9 +10,12 @@ returns-then-len-le-FEWEST-clause-rows c =
     let blocks = c.args.list.now.items in
     let n = c.args.at.block in
     let d : Block = c.index.result.now in
-    let few : length (get_or blocks n d).rows ≤ 1 = subst (λ (block : Block). length block.rows ≤ 1) c.index.ensures (omega (arith, c.len.ensures, c.if-len-le-FEWEST.true)) in
+    let few : length (get_or blocks n d).rows ≤ 1 =
+    subst (λ (block : Block). length block.rows ≤ 1) c.index.ensures
+    (omega (arith, c.len.ensures, c.if-len-le-FEWEST.true)) in
     let one : length (get_or blocks n d).rows ≡ 1 = omega (arith, c.requires.there d) in
-    ap (λ xs. rows_of (lists_of xs)) c.remove-emptied.ensures.items ∙ gone blocks n c.args.at.row d c.requires.within one (c.requires.there d)
+    ap (λ xs. rows_of (lists_of xs)) c.remove-emptied.ensures.items
+    ∙ gone blocks n c.args.at.row d c.requires.within one (c.requires.there d)
 
 pub returns-clause-rows : goal.returns-clause-rows
 returns-clause-rows c =
@@ -21,4 +24,5 @@ returns-clause-rows c =
     let row = c.args.at.row in
     let d : Block = c.index_mut.result.now in
     set_fewer blocks n row c.remove.new.self d c.requires.within
-    (subst (λ (block : Block). c.remove.new.self.rows ≡ remove block.rows row) c.index_mut.ensures.value c.remove.ensures.rows)
+    (subst (λ (block : Block). c.remove.new.self.rows ≡ remove block.rows row)
+    c.index_mut.ensures.value c.remove.ensures.rows)

@@ -13,10 +13,14 @@ returns-clause-rows c = λ key there.
     let row = c.args.at.row in
     let d : Block = c.index_mut.result.now in
     let e : Row = record { key = []; bytes = [] } in
-    let put : Row = record { key = (get_or (get_or blocks n d).rows row e).key; bytes = c.args.bytes } in
+    let put : Row =
+    record { key = (get_or (get_or blocks n d).rows row e).key; bytes = c.args.bytes } in
     set_changed blocks n row c.replace.new.self d put there.within (there.inside d)
-    (subst (λ (block : Block). c.replace.new.self.rows ≡ set block.rows row (record { key = (get_or block.rows row e).key; bytes = c.args.bytes })) c.index_mut.ensures.value (c.replace.ensures.rows e))
-    ∙ ap (λ k. rows_until n row blocks ++ (k, c.args.bytes) ∷ rows_at n (suc row) blocks) (sym (there.has d e))
+    (subst (λ (block : Block). c.replace.new.self.rows
+    ≡ set block.rows row (record { key = (get_or block.rows row e).key; bytes = c.args.bytes }))
+    c.index_mut.ensures.value (c.replace.ensures.rows e))
+    ∙ ap (λ k. rows_until n row blocks ++ (k, c.args.bytes) ∷ rows_at n (suc row) blocks)
+    (sym (there.has d e))
 
 pub returns-clause-had : goal.returns-clause-had
 returns-clause-had c = λ key there.
@@ -26,7 +30,9 @@ returns-clause-had c = λ key there.
     let d : Block = c.index_mut.result.now in
     let e : Row = record { key = []; bytes = [] } in
     let had : c.replace.result ≡ (get_or (get_or blocks n d).rows row e).bytes =
-    subst (λ (block : Block). c.replace.result ≡ (get_or block.rows row e).bytes) c.index_mut.ensures.value (c.replace.ensures.had e) in
+    subst (λ (block : Block). c.replace.result ≡ (get_or block.rows row e).bytes)
+    c.index_mut.ensures.value (c.replace.ensures.had e) in
     at_row blocks n row d e there.within (there.inside d)
-    ∙ ap (λ k. (k, (get_or (get_or blocks n d).rows row e).bytes) ∷ rows_at n (suc row) blocks) (sym (there.has d e))
+    ∙ ap (λ k. (k, (get_or (get_or blocks n d).rows row e).bytes) ∷ rows_at n (suc row) blocks)
+    (sym (there.has d e))
     ∙ ap (λ b. (key, b) ∷ rows_at n (suc row) blocks) (sym had)

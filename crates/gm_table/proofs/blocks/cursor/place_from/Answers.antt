@@ -6,5 +6,6 @@ use Rattle.gm_table.proofs.blocks.cursor.place_from.Goals as goal
 pub returns : goal.returns
 returns c = record {
   place = c.place_of.ensures.place;
-  rows = c.place_of.ensures.from ∙ after-from c.args.low.now (rows_of (lists_of c.args.blocks.now)) c.requires.rising;
+  rows = c.place_of.ensures.from
+      ∙ after-from c.args.low.now (rows_of (lists_of c.args.blocks.now)) c.requires.rising;
 }

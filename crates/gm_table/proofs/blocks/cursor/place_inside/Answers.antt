@@ -1,4 +1,5 @@
-use Rattle.std.proofs.Common.{◌≡◌, ◌-◌, ◌<◌, true, length, drop, sym, ap, subst, ◌∙◌, arith, length-drop}
+use Rattle.std.proofs.Common.{◌≡◌, ◌-◌, ◌<◌, true, length, drop, sym, ap, subst, ◌∙◌, arith}
+use Rattle.std.proofs.Common.{length-drop}
 use Rattle.std.proofs.lemmas.Grind.{common_steps}
 use Rattle.std.proofs.lemmas.List.{length-map}
 use Rattle.std.specs.Ordering.{nat_cmp, is_le}
@@ -17,6 +18,10 @@ returns-clause-inside c =
     let count = c.place_in.result in
     let item = c.in-Some.ensures.item in
     let reached : is_le (slice_cmp nat_cmp key last.key) ≡ true = grind (arith, common_steps) in
-    let some : 0 < length (rows_after key (pairs_of rows)) = some_after key rows (length rows - 1) last (omega (arith, item.3.0)) (subst (λ (row : Row). is_le (slice_cmp nat_cmp key row.key) ≡ true) item.1 reached) in
-    let left : length (rows_after key (pairs_of rows)) ≡ length rows - count = sym (ap length c.place_in.ensures.from) ∙ length-map (drop count rows) pair_of ∙ length-drop count rows in
+    let some : 0 < length (rows_after key (pairs_of rows)) =
+    some_after key rows (length rows - 1) last (omega (arith, item.3.0))
+    (subst (λ (row : Row). is_le (slice_cmp nat_cmp key row.key) ≡ true) item.1 reached) in
+    let left : length (rows_after key (pairs_of rows)) ≡ length rows - count =
+    sym (ap length c.place_in.ensures.from) ∙ length-map (drop count rows) pair_of
+    ∙ length-drop count rows in
     omega (arith, some, left)

@@ -1,4 +1,5 @@
-use Rattle.std.proofs.Common.{◌≡◌, ◌+◌, ◌≤◌, ◌<◌, length, drop, get_or, refl, sym, ap, subst, ◌∙◌, arith, length-drop}
+use Rattle.std.proofs.Common.{◌≡◌, ◌+◌, ◌≤◌, ◌<◌, length, drop, get_or, refl, sym, ap, subst, ◌∙◌}
+use Rattle.std.proofs.Common.{arith, length-drop}
 use Rattle.gm_table.specs.Blocks.{pairs_of}
 use Rattle.gm_table.specs.Cursor.{rows_after}
 use Rattle.gm_table.specs.Sorted.{IsRising}
@@ -10,16 +11,25 @@ use Rattle.gm_table.proofs.blocks.cursor.step_to.Goals as goal
 pub rest_of-rest-requires : goal.rest_of-rest-requires
 rest_of-rest-requires c =
     let row = c.args.at.row in
-    subst (λ rows. row ≤ length rows) (sym c.as_slice.ensures) (place_bound c.args.blocks.now c.args.at.block row c.index-blocks-at.result c.requires.place (omega (arith, c.if-at-blocks.false)))
+    subst (λ rows. row ≤ length rows) (sym c.as_slice.ensures)
+    (place_bound c.args.blocks.now c.args.at.block row c.index-blocks-at.result c.requires.place
+    (omega (arith, c.if-at-blocks.false)))
 
 pub place_inside-requires : goal.place_inside-requires
 place_inside-requires c =
     let row = c.args.at.row in
     let rows = (get_or c.args.blocks.now c.args.at.block c.index-blocks-at.result).rows in
-    let rest_is : c.rest_of-rest.result.now ≡ drop row rows = c.rest_of-rest.ensures ∙ ap (drop row) c.as_slice.ensures in
-    subst (λ xs. IsRising (pairs_of xs)) (sym rest_is) (rising_drop rows row (block_rises c.args.blocks.now c.requires.rising c.args.at.block c.index-blocks-at.result (omega (arith, c.if-at-blocks.false))))
+    let rest_is : c.rest_of-rest.result.now ≡ drop row rows =
+    c.rest_of-rest.ensures ∙ ap (drop row) c.as_slice.ensures in
+    subst (λ xs. IsRising (pairs_of xs)) (sym rest_is)
+    (rising_drop rows row
+    (block_rises c.args.blocks.now c.requires.rising c.args.at.block
+    c.index-blocks-at.result (omega (arith, c.if-at-blocks.false))))
 
-ends : (c : In-Some) → Ends c.args.key.now c.args.blocks.now c.args.at.block c.args.at.row (c.args.at.row + c.in-Some.count) (get_or c.args.blocks.now c.args.at.block c.index-blocks-at.result).rows
+ends : (c : In-Some)
+    → Ends c.args.key.now c.args.blocks.now c.args.at.block c.args.at.row
+    (c.args.at.row + c.in-Some.count)
+    (get_or c.args.blocks.now c.args.at.block c.index-blocks-at.result).rows
 ends c =
     let blocks = c.args.blocks.now in
     let key = c.args.key.now in
@@ -28,11 +38,15 @@ ends c =
     let count = c.in-Some.count in
     let block = c.index-blocks-at.result in
     let rows = (get_or blocks n block).rows in
-    let rest_is : c.rest_of-rest.result.now ≡ drop row rows = c.rest_of-rest.ensures ∙ ap (drop row) c.as_slice.ensures in
-    let few : count < length (drop row rows) = subst (λ xs. count < length xs) rest_is c.in-Some.ensures.inside in
+    let rest_is : c.rest_of-rest.result.now ≡ drop row rows =
+    c.rest_of-rest.ensures ∙ ap (drop row) c.as_slice.ensures in
+    let few : count < length (drop row rows) =
+    subst (λ xs. count < length xs) rest_is c.in-Some.ensures.inside in
     let from : pairs_of (drop count (drop row rows)) ≡ rows_after key (pairs_of (drop row rows)) =
-    subst (λ xs. pairs_of (drop count xs) ≡ rows_after key (pairs_of xs)) rest_is c.in-Some.ensures.from in
-    ends_within key blocks n row count (row + count) block (omega (arith, c.if-at-blocks.false)) refl (omega (arith, few, length-drop row rows)) from
+    subst (λ xs. pairs_of (drop count xs) ≡ rows_after key (pairs_of xs)) rest_is
+    c.in-Some.ensures.from in
+    ends_within key blocks n row count (row + count) block (omega (arith, c.if-at-blocks.false))
+    refl (omega (arith, few, length-drop row rows)) from
 
 pub returns-in-Some-clause-place : goal.returns-in-Some-clause-place
 returns-in-Some-clause-place c = (ends c.before).place

@@ -1,4 +1,5 @@
-use Rattle.std.proofs.Common.{◌≡◌, ◌∷◌, ◌<◌, ◌≤◌, true, false, suc, length, subst, sym, ap, ◌∙◌, get_or, arith}
+use Rattle.std.proofs.Common.{◌≡◌, ◌∷◌, ◌<◌, ◌≤◌, true, false, suc, length, subst, sym, ap, ◌∙◌}
+use Rattle.std.proofs.Common.{get_or, arith}
 use Rattle.std.proofs.lemmas.Grind.{common_steps}
 use Rattle.std.specs.Ordering.{nat_cmp, is_eq}
 use Rattle.std.specs.Cmp.Lexicographic.{slice_cmp}
@@ -20,9 +21,12 @@ returns-then-at-blocks-clause-gap c =
     let until = rows_until n row c.args.blocks.now in
     let from = rows_at n row c.args.blocks.now in
     let asked = c.of_key.ensures in
-    let below : until ≡ rows_below key all = c.ahead-at.ensures.until ∙ c.place_of.ensures.before ∙ ap (λ k. rows_below k all) asked in
-    let after : from ≡ rows_after key all = c.ahead-at.ensures.from ∙ c.place_of.ensures.from ∙ ap (λ k. rows_after k all) asked in
-    gap_none key all until from below after (at_none c.args.blocks.now n row (omega (arith, c.if-at-blocks.true)))
+    let below : until ≡ rows_below key all =
+    c.ahead-at.ensures.until ∙ c.place_of.ensures.before ∙ ap (λ k. rows_below k all) asked in
+    let after : from ≡ rows_after key all =
+    c.ahead-at.ensures.from ∙ c.place_of.ensures.from ∙ ap (λ k. rows_after k all) asked in
+    gap_none key all until from below after
+    (at_none c.args.blocks.now n row (omega (arith, c.if-at-blocks.true)))
 
 -- the end of all
 pub returns-then-at-rows-clause-gap : goal.returns-then-at-rows-clause-gap
@@ -34,9 +38,12 @@ returns-then-at-rows-clause-gap c =
     let until = rows_until n row c.args.blocks.now in
     let from = rows_at n row c.args.blocks.now in
     let asked = c.of_key.ensures in
-    let below : until ≡ rows_below key all = c.ahead-at.ensures.until ∙ c.place_of.ensures.before ∙ ap (λ k. rows_below k all) asked in
-    let after : from ≡ rows_after key all = c.ahead-at.ensures.from ∙ c.place_of.ensures.from ∙ ap (λ k. rows_after k all) asked in
-    gap_none key all until from below after (c.ahead-at.ensures.end c.index-blocks-at.result (omega (arith, c.if-at-blocks.false))
+    let below : until ≡ rows_below key all =
+    c.ahead-at.ensures.until ∙ c.place_of.ensures.before ∙ ap (λ k. rows_below k all) asked in
+    let after : from ≡ rows_after key all =
+    c.ahead-at.ensures.from ∙ c.place_of.ensures.from ∙ ap (λ k. rows_after k all) asked in
+    gap_none key all until from below after
+    (c.ahead-at.ensures.end c.index-blocks-at.result (omega (arith, c.if-at-blocks.false))
     (subst (λ xs. length xs ≤ row) c.as_slice-rows.ensures c.if-at-rows.true))
 
 pub returns-then-is_eq-clause-there : goal.returns-then-is_eq-clause-there
@@ -45,7 +52,8 @@ returns-then-is_eq-clause-there c =
     let row = c.ahead-at.result.row in
     let r = c.index-rows-at.result in
     let same : is_eq (slice_cmp nat_cmp key r.key) ≡ true = grind (arith, common_steps) in
-    has_row key c.args.blocks.now c.ahead-at.result.block row c.index-blocks-at.result r (omega (arith, c.if-at-blocks.false))
+    has_row key c.args.blocks.now c.ahead-at.result.block row c.index-blocks-at.result r
+    (omega (arith, c.if-at-blocks.false))
     (subst (λ xs. row < length xs) c.as_slice-rows.ensures c.if-at-rows.false)
     (subst (λ xs. r ≡ get_or xs row r) c.as_slice-rows.ensures c.index-rows-at.is)
     (same_key key r.key same)
@@ -60,12 +68,17 @@ returns-clause-gap c =
     let until = rows_until n row c.args.blocks.now in
     let from = rows_at n row c.args.blocks.now in
     let asked = c.of_key.ensures in
-    let below : until ≡ rows_below key all = c.ahead-at.ensures.until ∙ c.place_of.ensures.before ∙ ap (λ k. rows_below k all) asked in
-    let after : from ≡ rows_after key all = c.ahead-at.ensures.from ∙ c.place_of.ensures.from ∙ ap (λ k. rows_after k all) asked in
+    let below : until ≡ rows_below key all =
+    c.ahead-at.ensures.until ∙ c.place_of.ensures.before ∙ ap (λ k. rows_below k all) asked in
+    let after : from ≡ rows_after key all =
+    c.ahead-at.ensures.from ∙ c.place_of.ensures.from ∙ ap (λ k. rows_after k all) asked in
     let r = c.index-rows-at.result in
     let d = c.index-blocks-at.result in
     let other : is_eq (slice_cmp nat_cmp key r.key) ≡ false = grind (arith, common_steps) in
-    let first = at_row c.args.blocks.now n row d r (omega (arith, c.if-at-blocks.false)) (subst (λ xs. row < length xs) c.as_slice-rows.ensures c.if-at-rows.false) in
-    let is : r ≡ get_or (get_or c.args.blocks.now n d).rows row r = subst (λ xs. r ≡ get_or xs row r) c.as_slice-rows.ensures c.index-rows-at.is in
-    gap_some key all until from (pair_of r) (rows_at n (suc row) c.args.blocks.now) c.requires.rising below after
+    let first = at_row c.args.blocks.now n row d r (omega (arith, c.if-at-blocks.false))
+    (subst (λ xs. row < length xs) c.as_slice-rows.ensures c.if-at-rows.false) in
+    let is : r ≡ get_or (get_or c.args.blocks.now n d).rows row r =
+    subst (λ xs. r ≡ get_or xs row r) c.as_slice-rows.ensures c.index-rows-at.is in
+    gap_some key all until from (pair_of r) (rows_at n (suc row) c.args.blocks.now)
+    c.requires.rising below after
     (first ∙ ap (λ (it : Row). pair_of it ∷ rows_at n (suc row) c.args.blocks.now) (sym is)) other

@@ -11,8 +11,10 @@ pub returns-in-None : goal.returns-in-None
 returns-in-None c =
     let key = c.args.key.now in
     let all = rows_of (lists_of c.args.blocks.now) in
-    let front = rows_at c.place_of-place.result.block c.place_of-place.result.row c.args.blocks.now in
-    let at : front ≡ rows_after key all = c.place_of-place.ensures.from ∙ ap (λ k. rows_after k all) c.of_key.ensures in
+    let front = rows_at c.place_of-place.result.block c.place_of-place.result.row
+    c.args.blocks.now in
+    let at : front ≡ rows_after key all =
+    c.place_of-place.ensures.from ∙ ap (λ k. rows_after k all) c.of_key.ensures in
     none_at key all front c.requires.rising at c.in-None.ensures
 
 pub returns-then-is_eq : goal.returns-then-is_eq
@@ -20,18 +22,24 @@ returns-then-is_eq c =
     let key = c.args.key.now in
     let row = c.in-Some.row.now in
     let all = rows_of (lists_of c.args.blocks.now) in
-    let front = rows_at c.place_of-place.result.block c.place_of-place.result.row c.args.blocks.now in
-    let at : front ≡ rows_after key all = c.place_of-place.ensures.from ∙ ap (λ k. rows_after k all) c.of_key.ensures in
+    let front = rows_at c.place_of-place.result.block c.place_of-place.result.row
+    c.args.blocks.now in
+    let at : front ≡ rows_after key all =
+    c.place_of-place.ensures.from ∙ ap (λ k. rows_after k all) c.of_key.ensures in
     let same : is_eq (slice_cmp nat_cmp key row.key) ≡ true = grind (arith, common_steps) in
     ap (λ bytes. Some bytes) c.as_slice.ensures
-    ∙ some_at key all front (pair_of row) c.in-Some.ensures.0 c.requires.rising at c.in-Some.ensures.1 same
+    ∙ some_at key all front (pair_of row) c.in-Some.ensures.0 c.requires.rising at
+    c.in-Some.ensures.1 same
 
 pub returns-else-is_eq : goal.returns-else-is_eq
 returns-else-is_eq c =
     let key = c.args.key.now in
     let row = c.in-Some.row.now in
     let all = rows_of (lists_of c.args.blocks.now) in
-    let front = rows_at c.place_of-place.result.block c.place_of-place.result.row c.args.blocks.now in
-    let at : front ≡ rows_after key all = c.place_of-place.ensures.from ∙ ap (λ k. rows_after k all) c.of_key.ensures in
+    let front = rows_at c.place_of-place.result.block c.place_of-place.result.row
+    c.args.blocks.now in
+    let at : front ≡ rows_after key all =
+    c.place_of-place.ensures.from ∙ ap (λ k. rows_after k all) c.of_key.ensures in
     let other : is_eq (slice_cmp nat_cmp key row.key) ≡ false = grind (arith, common_steps) in
-    apart_at key all front (pair_of row) c.in-Some.ensures.0 c.requires.rising at c.in-Some.ensures.1 other
+    apart_at key all front (pair_of row) c.in-Some.ensures.0 c.requires.rising at
+    c.in-Some.ensures.1 other

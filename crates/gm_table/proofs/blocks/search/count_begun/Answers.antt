@@ -13,8 +13,12 @@ halves-preserved-then-begins_by c =
     record {
       order = omega (arith, c.halves-test.true);
       bound = c.halves.invariant.bound;
-      begun = λ k d low up. begun_before key blocks c.requires.each c.requires.rising k middle d (omega arith) (omega (arith, c.halves-test.true, c.halves.invariant.bound))
-          (sym (ap (is_begun key) (c.index-blocks-middle.is ∙ get_or_default blocks middle block d (omega (arith, c.halves-test.true, c.halves.invariant.bound)))) ∙ here);
+      begun = λ k d low up. begun_before key blocks c.requires.each c.requires.rising k middle d
+          (omega arith) (omega (arith, c.halves-test.true, c.halves.invariant.bound))
+          (sym (ap (is_begun key)
+          (c.index-blocks-middle.is
+          ∙ get_or_default blocks middle block d
+          (omega (arith, c.halves-test.true, c.halves.invariant.bound)))) ∙ here);
       others = c.halves.invariant.others;
     }
 
@@ -29,6 +33,10 @@ halves-preserved c =
       order = omega arith;
       bound = omega (arith, c.halves-test.true, c.halves.invariant.bound);
       begun = c.halves.invariant.begun;
-      others = λ k d low up. not_begun_after key blocks c.requires.each c.requires.rising middle k d low up
-          (sym (ap (is_begun key) (c.index-blocks-middle.is ∙ get_or_default blocks middle block d (omega (arith, c.halves-test.true, c.halves.invariant.bound)))) ∙ here);
+      others = λ k d low up. not_begun_after key blocks c.requires.each c.requires.rising
+          middle k d low up
+          (sym (ap (is_begun key)
+          (c.index-blocks-middle.is
+          ∙ get_or_default blocks middle block d
+          (omega (arith, c.halves-test.true, c.halves.invariant.bound)))) ∙ here);
     }

@@ -1,4 +1,5 @@
-use Rattle.std.proofs.Common.{◌+◌, suc, ℕ, List, length, [], ◌∷◌, take, drop, refl, sym, ap, subst, arith, length-append}
+use Rattle.std.proofs.Common.{◌+◌, suc, ℕ, List, length, [], ◌∷◌, take, drop, refl, sym, ap, subst}
+use Rattle.std.proofs.Common.{arith, length-append}
 use Rattle.std.specs.Prelude.{Ok, Err, All}
 use Rattle.std.proofs.lemmas.Result.{err_from_is_err_and}
 use Rattle.std.proofs.lemmas.List.{length-map}
@@ -15,9 +16,14 @@ row-requires g c =
     let rows = c.args.rows.now in
     let i = c.loop-row.row-index in
     let P = λ (r : List ℕ × List ℕ). g.V.Visit.admits c.loop-row.visit r.0 r.1 in
-    let here : P (pair_of row) = one_of P (pairs_of (take i rows)) (pair_of row) (pairs_of (drop (suc i) rows)) (subst (All P) (cut_at rows i row c.loop-row-test.true c.row-item.is) c.loop-row.invariant.admits) in
-    subst (λ key. g.V.Visit.admits c.loop-row.visit key c.as_slice-in-loop-row.result.now) (sym c.as_slice.ensures)
-    (subst (λ bytes. g.V.Visit.admits c.loop-row.visit row.key bytes) (sym c.as_slice-in-loop-row.ensures) here)
+    let here : P (pair_of row) =
+    one_of P (pairs_of (take i rows)) (pair_of row) (pairs_of (drop (suc i) rows))
+    (subst (All P) (cut_at rows i row c.loop-row-test.true c.row-item.is)
+    c.loop-row.invariant.admits) in
+    subst (λ key. g.V.Visit.admits c.loop-row.visit key c.as_slice-in-loop-row.result.now)
+    (sym c.as_slice.ensures)
+    (subst (λ bytes. g.V.Visit.admits c.loop-row.visit row.key bytes)
+    (sym c.as_slice-in-loop-row.ensures) here)
 
 pub loop-row-preserved : goal.loop-row-preserved
 loop-row-preserved g c =
@@ -26,14 +32,28 @@ loop-row-preserved g c =
     let i = c.loop-row.row-index in
     let P = λ (r : List ℕ × List ℕ). g.V.Visit.admits c.loop-row.visit r.0 r.1 in
     let Q = λ (r : List ℕ × List ℕ). g.V.Visit.admits c.row.new.self r.0 r.1 in
-    let here : P (pair_of row) = one_of P (pairs_of (take i rows)) (pair_of row) (pairs_of (drop (suc i) rows)) (subst (All P) (cut_at rows i row c.loop-row-test.true c.row-item.is) c.loop-row.invariant.admits) in
-    let took : g.V.Visit.takes c.loop-row.visit row.key row.bytes (Ok tt) c.row.new.self = rw (← c.as_slice.ensures, ← c.as_slice-in-loop-row.ensures) c.in_ok-row.ensures in
+    let here : P (pair_of row) =
+    one_of P (pairs_of (take i rows)) (pair_of row) (pairs_of (drop (suc i) rows))
+    (subst (All P) (cut_at rows i row c.loop-row-test.true c.row-item.is)
+    c.loop-row.invariant.admits) in
+    let took : g.V.Visit.takes c.loop-row.visit row.key row.bytes (Ok tt) c.row.new.self =
+    rw (← c.as_slice.ensures, ← c.as_slice-in-loop-row.ensures) c.in_ok-row.ensures in
     let more = one_more rows i row c.loop-row-test.true c.row-item.is in
     record {
-      handed = subst (λ some. Handed g.V.Visit.takes c.args.visit.now (pairs_of some) c.row.new.self) (sym more)
-          (Handed-more g.V.Visit.takes pair_of c.args.visit.now c.loop-row.visit c.row.new.self (take i rows) row c.loop-row.invariant.handed took);
-      tally = omega (arith, c.add.ensures, c.loop-row.invariant.tally, ap length more, length-append (take i rows) (row ∷ []));
-      admits = All-weaker P Q (λ r may. g.met.V.Visit.keeps _ _ _ _ _ _ _ here took may) (pairs_of rows) c.loop-row.invariant.admits;
+      handed = subst
+          (λ some. Handed g.V.Visit.takes c.args.visit.now (pairs_of some) c.row.new.self)
+          (sym more)
+          (Handed-more g.V.Visit.takes pair_of c.args.visit.now c.loop-row.visit c.row.new.self
+          (take i rows) row c.loop-row.invariant.handed took);
+      tally = omega (
+        arith,
+        c.add.ensures,
+        c.loop-row.invariant.tally,
+        ap length more,
+        length-append (take i rows) (row ∷ []),
+      );
+      admits = All-weaker P Q (λ r may. g.met.V.Visit.keeps _ _ _ _ _ _ _ here took may)
+          (pairs_of rows) c.loop-row.invariant.admits;
     }
 
 -- the visitor had no memory
@@ -42,7 +62,9 @@ returns-in_err-row g c =
     let row = c.row-item.result in
     let rows = c.args.rows.now in
     let i = c.loop-row.row-index in
-    let refused : g.V.Visit.takes c.loop-row.visit row.key row.bytes (Err c.in_err-row.field-0.0) c.row.new.self = rw (← c.as_slice.ensures, ← c.as_slice-in-loop-row.ensures) c.in_err-row.ensures in
+    let refused : g.V.Visit.takes c.loop-row.visit row.key row.bytes (Err c.in_err-row.field-0.0)
+    c.row.new.self =
+    rw (← c.as_slice.ensures, ← c.as_slice-in-loop-row.ensures) c.in_err-row.ensures in
     let p = err_from_is_err_and c.from_residual.result c.from_residual.ensures.1 in
     rw (p.1, p.2) (record {
       handed = tt;

@@ -9,8 +9,11 @@ use Rattle.gm_table.proofs.blocks.walk.hand_out_until.Given as goal
 abbrev pub invariant-walk : goal.invariant-walk
 invariant-walk g l = record {
   place : IsPlace l.at.block l.at.row l.blocks;
-  walk : Walk g.V.Visit.takes l.fn.visit l.visit l.high (rows_at l.fn.from.block l.fn.from.row l.blocks) (rows_at l.at.block l.at.row l.blocks) (tally_number l.fn.tally) (tally_number l.tally);
-  admits : All (λ row. g.V.Visit.admits l.visit row.0 row.1) (rows_below l.high (rows_at l.fn.from.block l.fn.from.row l.blocks));
+  walk : Walk g.V.Visit.takes l.fn.visit l.visit l.high
+      (rows_at l.fn.from.block l.fn.from.row l.blocks) (rows_at l.at.block l.at.row l.blocks)
+      (tally_number l.fn.tally) (tally_number l.tally);
+  admits : All (λ row. g.V.Visit.admits l.visit row.0 row.1)
+      (rows_below l.high (rows_at l.fn.from.block l.fn.from.row l.blocks));
 }
 
 abbrev pub decreases-walk : goal.decreases-walk

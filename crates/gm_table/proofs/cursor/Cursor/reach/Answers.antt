@@ -11,5 +11,8 @@ returns-then-not-is_below c =
     let from = c.args.self.now.from.now in
     let end = c.of-end.result in
     let up : is_le (slice_cmp nat_cmp from end) ≡ true = grind (arith, common_steps) in
-    sym (clear-after end c.step_over-self.result c.step_over-self.new.rest (c.if-not-is_below.ensures.clear refl)) ∙ c.step_over-self.ensures
-    ∙ ap (rows_after end) c.requires.at ∙ after-is from end c.args.map.now.entries up c.requires.rising ∙ ap (λ key. rows_from key c.args.map.now.entries) c.of-end.ensures
+    sym (clear-after end c.step_over-self.result c.step_over-self.new.rest
+    (c.if-not-is_below.ensures.clear refl)) ∙ c.step_over-self.ensures
+    ∙ ap (rows_after end) c.requires.at
+    ∙ after-is from end c.args.map.now.entries up c.requires.rising
+    ∙ ap (λ key. rows_from key c.args.map.now.entries) c.of-end.ensures

@@ -10,7 +10,11 @@ use Rattle.gm_table.proofs.map_table.MapTableSorted.scan_spans.Given as goal
 abbrev pub invariant-loop-i : goal.invariant-loop-i
 invariant-loop-i g l = record {
   at : IsAt l.cursor l.self.map.entries;
-  handed : Handed g.V.Visit.takes l.fn.visit (rows_in (slice_range l.spans l.fn.part.start l.i) l.self.map.entries) l.visit;
-  tally : tally_number l.tally ≡ capped_sum (tally_number l.fn.tally) (length (rows_in (slice_range l.spans l.fn.part.start l.i) l.self.map.entries));
-  admits : All (λ row. g.V.Visit.admits l.visit row.0 row.1) (rows_in (slice_range l.spans l.fn.part.start l.fn.part.end) l.self.map.entries);
+  handed : Handed g.V.Visit.takes l.fn.visit
+      (rows_in (slice_range l.spans l.fn.part.start l.i) l.self.map.entries) l.visit;
+  tally : tally_number l.tally
+      ≡ capped_sum (tally_number l.fn.tally)
+      (length (rows_in (slice_range l.spans l.fn.part.start l.i) l.self.map.entries));
+  admits : All (λ row. g.V.Visit.admits l.visit row.0 row.1)
+      (rows_in (slice_range l.spans l.fn.part.start l.fn.part.end) l.self.map.entries);
 }

@@ -7,7 +7,11 @@ use Rattle.gm_table.proofs.sorted.Sorted.scan_spans.Given as goal
 
 abbrev pub invariant-loop-i : goal.invariant-loop-i
 invariant-loop-i g l = record {
-  handed : Handed g.V.Visit.takes l.fn.visit (rows_in (slice_range l.spans l.fn.part.start l.i) (g.Self.Sorted.rows l.self)) l.visit;
-  tally : g.Self.Tally.Counter.number l.tally ≡ capped_sum (g.Self.Tally.Counter.number l.fn.tally) (length (rows_in (slice_range l.spans l.fn.part.start l.i) (g.Self.Sorted.rows l.self)));
-  admits : All (λ row. g.V.Visit.admits l.visit row.0 row.1) (rows_in (slice_range l.spans l.fn.part.start l.fn.part.end) (g.Self.Sorted.rows l.self));
+  handed : Handed g.V.Visit.takes l.fn.visit
+      (rows_in (slice_range l.spans l.fn.part.start l.i) (g.Self.Sorted.rows l.self)) l.visit;
+  tally : g.Self.Tally.Counter.number l.tally
+      ≡ capped_sum (g.Self.Tally.Counter.number l.fn.tally)
+      (length (rows_in (slice_range l.spans l.fn.part.start l.i) (g.Self.Sorted.rows l.self)));
+  admits : All (λ row. g.V.Visit.admits l.visit row.0 row.1)
+      (rows_in (slice_range l.spans l.fn.part.start l.fn.part.end) (g.Self.Sorted.rows l.self));
 }

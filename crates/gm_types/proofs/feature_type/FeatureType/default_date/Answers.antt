@@ -5,14 +5,19 @@ use Rattle.gm_types.specs.Specification.{Specification, default_date_of}
 use Rattle.gm_types.proofs.Together.{holds_together}
 use Rattle.gm_types.proofs.feature_type.FeatureType.default_date.Goals as goal
 
-known : (t : Specification) (place : ℕ) → IsType t → default_date_of t ≡ Some place → IsDateAt t place
+known : (t : Specification) (place : ℕ) → IsType t → default_date_of t ≡ Some place
+    → IsDateAt t place
 known t place typed e = (holds_together t typed).date place e
 
 pub overflow_cast-result : goal.overflow_cast-result
 overflow_cast-result c =
     let typed = c.self.invariant.typed in
-    let at = known (kept c.self.inside) c.in-Some.place typed (sym c.self.invariant.facts.times.date ∙ c.in-Some.is) in
+    let at = known (kept c.self.inside) c.in-Some.place typed
+    (sym c.self.invariant.facts.times.date ∙ c.in-Some.is) in
     omega (arith, at.within, typed.few)
 
 pub returns-in-Some-clause-kind : goal.returns-in-Some-clause-kind
-returns-in-Some-clause-kind c = rw (← c.self.view_is) (known (kept c.self.inside) c.in-Some.place c.self.invariant.typed (sym c.self.invariant.facts.times.date ∙ c.in-Some.is))
+returns-in-Some-clause-kind c =
+    rw (← c.self.view_is)
+    (known (kept c.self.inside) c.in-Some.place c.self.invariant.typed
+    (sym c.self.invariant.facts.times.date ∙ c.in-Some.is))

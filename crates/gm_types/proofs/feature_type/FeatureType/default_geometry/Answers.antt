@@ -5,7 +5,8 @@ use Rattle.gm_types.specs.Specification.{Specification, default_geometry_of}
 use Rattle.gm_types.proofs.Together.{holds_together}
 use Rattle.gm_types.proofs.feature_type.FeatureType.default_geometry.Goals as goal
 
-known : (t : Specification) (place : ℕ) → IsType t → default_geometry_of t ≡ Some place → IsGeometryAt t place
+known : (t : Specification) (place : ℕ) → IsType t → default_geometry_of t ≡ Some place
+    → IsGeometryAt t place
 known t place typed e = (holds_together t typed).geometry place e
 
 pub overflow_cast-result : goal.overflow_cast-result
@@ -15,4 +16,6 @@ overflow_cast-result c =
     omega (arith, at.within, typed.few)
 
 pub returns-in-Some-clause-kind : goal.returns-in-Some-clause-kind
-returns-in-Some-clause-kind c = rw (← c.self.view_is) (known (kept c.self.inside) c.in-Some.place c.self.invariant.typed c.in-Some.is)
+returns-in-Some-clause-kind c =
+    rw (← c.self.view_is)
+    (known (kept c.self.inside) c.in-Some.place c.self.invariant.typed c.in-Some.is)

@@ -9,7 +9,11 @@ returns-in-None c =
     let is : index_of_name c.args.self.now c.args.name.now ≡ None =
     index_is_meant c.args.self.now c.args.name.now c.index_meant.ensures.typed.valid.names
     ∙ ap (index_if c.args.self.now) (sym c.in-None.ensures.meant) in
-    record { value = sym is; named = tt; none = no_index_named_so c.args.self.now c.args.name.now is }
+    record {
+      value = sym is;
+      named = tt;
+      none = no_index_named_so c.args.self.now c.args.name.now is;
+    }
 
 pub returns-then-has : goal.returns-then-has
 returns-then-has c =
@@ -17,7 +21,11 @@ returns-then-has c =
     index_is_meant c.args.self.now c.args.name.now c.index_meant.ensures.typed.valid.names
     ∙ ap (index_if c.args.self.now) (sym c.in-Some.ensures.meant)
     ∙ ap (λ b. if b then Some c.in-Some.kind else None) (sym c.if-has.ensures.value) in
-    record { value = sym is; named = index_named_so c.args.self.now c.args.name.now c.in-Some.kind is; none = tt }
+    record {
+      value = sym is;
+      named = index_named_so c.args.self.now c.args.name.now c.in-Some.kind is;
+      none = tt;
+    }
 
 pub returns-else-has : goal.returns-else-has
 returns-else-has c =
@@ -25,4 +33,8 @@ returns-else-has c =
     index_is_meant c.args.self.now c.args.name.now c.index_meant.ensures.typed.valid.names
     ∙ ap (index_if c.args.self.now) (sym c.in-Some.ensures.meant)
     ∙ ap (λ b. if b then Some c.in-Some.kind else None) (sym c.if-has.ensures.value) in
-    record { value = sym is; named = tt; none = no_index_named_so c.args.self.now c.args.name.now is }
+    record {
+      value = sym is;
+      named = tt;
+      none = no_index_named_so c.args.self.now c.args.name.now is;
+    }

@@ -7,4 +7,6 @@ pub returns-then-self-front-2 : goal.returns-then-self-front-2
 returns-then-self-front-2 c =
     let key = c.args.key.now in
     let first = first_key c.args.self.now.rows in
-    sym (not_le_after key first (c.order_of_fronts.ensures _ _ key first c.front-2.ensures c.requires.front c.if-self-front-2.true))
+    sym (not_le_after key first
+    (c.order_of_fronts.ensures _ _ key first c.front-2.ensures c.requires.front
+    c.if-self-front-2.true))

@@ -10,6 +10,7 @@ pub invariant_of-result : goal.invariant_of-result
 unfolding IsStrictlySortedBy
 invariant_of-result c = record {
   each = subst (AllByRecursion IsBlock) (sym c.new.ensures.items) tt;
-  rising = subst (λ (xs : List Block). IsRising (rows_of (lists_of xs))) (sym c.new.ensures.items) tt;
+  rising = subst (λ (xs : List Block). IsRising (rows_of (lists_of xs)))
+      (sym c.new.ensures.items) tt;
   counted = sym (ap (λ (xs : List Block). length (rows_of (lists_of xs))) c.new.ensures.items);
 }

@@ -15,8 +15,11 @@ overflow_sub-self c =
     let key = c.args.key.now in
     let n = c.in-Ok.at.block in
     let row = c.in-Ok.at.row in
-    let there : IsRowAt key n row old = subst (λ (xs : List Block). IsRowAt key n row xs) c.deref.ensures.value c.in-Ok.ensures.there in
-    let taken = table_taken key old c.remove_row.new.list.items n row there c.remove_row.ensures.rows c.args.self.now.rising in
+    let there : IsRowAt key n row old =
+    subst (λ (xs : List Block). IsRowAt key n row xs) c.deref.ensures.value
+    c.in-Ok.ensures.there in
+    let taken = table_taken key old c.remove_row.new.list.items n row there
+    c.remove_row.ensures.rows c.args.self.now.rising in
     omega (arith, taken.size, c.args.self.now.counted)
 
 pub invariant_of-self : goal.invariant_of-self
@@ -25,9 +28,16 @@ invariant_of-self c =
     let key = c.args.key.now in
     let n = c.in-Ok.at.block in
     let row = c.in-Ok.at.row in
-    let there : IsRowAt key n row old = subst (λ (xs : List Block). IsRowAt key n row xs) c.deref.ensures.value c.in-Ok.ensures.there in
-    let taken = table_taken key old c.remove_row.new.list.items n row there c.remove_row.ensures.rows c.args.self.now.rising in
-    record { each = c.remove_row.ensures.each; rising = taken.rising; counted = omega (arith, taken.size, c.args.self.now.counted) }
+    let there : IsRowAt key n row old =
+    subst (λ (xs : List Block). IsRowAt key n row xs) c.deref.ensures.value
+    c.in-Ok.ensures.there in
+    let taken = table_taken key old c.remove_row.new.list.items n row there
+    c.remove_row.ensures.rows c.args.self.now.rising in
+    record {
+      each = c.remove_row.ensures.each;
+      rising = taken.rising;
+      counted = omega (arith, taken.size, c.args.self.now.counted);
+    }
 
 pub returns-in-None : goal.returns-in-None
 returns-in-None c =
@@ -35,9 +45,14 @@ returns-in-None c =
     let key = c.args.key.now in
     let n = c.in-Ok.at.block in
     let row = c.in-Ok.at.row in
-    let there : IsRowAt key n row old = subst (λ (xs : List Block). IsRowAt key n row xs) c.deref.ensures.value c.in-Ok.ensures.there in
-    let taken = table_taken key old c.remove_row.new.list.items n row there c.remove_row.ensures.rows c.args.self.now.rising in
-    λ other. taken.restored other ∙ ap (λ o. restored_at other key o (at_key other (rows_of (lists_of old)))) (sym c.in-None.is)
+    let there : IsRowAt key n row old =
+    subst (λ (xs : List Block). IsRowAt key n row xs) c.deref.ensures.value
+    c.in-Ok.ensures.there in
+    let taken = table_taken key old c.remove_row.new.list.items n row there
+    c.remove_row.ensures.rows c.args.self.now.rising in
+    λ other. taken.restored other
+    ∙ ap (λ o. restored_at other key o (at_key other (rows_of (lists_of old))))
+    (sym c.in-None.is)
 
 -- the row is given its bytes again
 pub invariant_of-self-in-Some : goal.invariant_of-self-in-Some
@@ -45,20 +60,34 @@ invariant_of-self-in-Some c =
     let old = c.args.self.now.list.items in
     let n = c.in-Ok.at.block in
     let row = c.in-Ok.at.row in
-    let there : IsRowAt c.args.key.now n row old = subst (λ (xs : List Block). IsRowAt c.args.key.now n row xs) c.deref.ensures.value c.in-Ok.ensures.there in
+    let there : IsRowAt c.args.key.now n row old =
+    subst (λ (xs : List Block). IsRowAt c.args.key.now n row xs) c.deref.ensures.value
+    c.in-Ok.ensures.there in
     let had = c.replace_row-now.ensures.had c.args.key.now there in
-    let changed = table_changed c.args.key.now c.replace_row-now.result c.in-Some.bytes old c.replace_row-now.new.list.items n row (c.replace_row-now.ensures.rows c.args.key.now there) had c.args.self.now.rising in
-    record { each = c.replace_row-now.ensures.each; rising = changed.rising; counted = c.args.self.now.counted ∙ sym changed.size }
+    let changed = table_changed c.args.key.now c.replace_row-now.result c.in-Some.bytes old
+    c.replace_row-now.new.list.items n row (c.replace_row-now.ensures.rows c.args.key.now there)
+    had c.args.self.now.rising in
+    record {
+      each = c.replace_row-now.ensures.each;
+      rising = changed.rising;
+      counted = c.args.self.now.counted ∙ sym changed.size;
+    }
 
 pub returns-in-Some : goal.returns-in-Some
 returns-in-Some c =
     let old = c.args.self.now.list.items in
     let n = c.in-Ok.at.block in
     let row = c.in-Ok.at.row in
-    let there : IsRowAt c.args.key.now n row old = subst (λ (xs : List Block). IsRowAt c.args.key.now n row xs) c.deref.ensures.value c.in-Ok.ensures.there in
+    let there : IsRowAt c.args.key.now n row old =
+    subst (λ (xs : List Block). IsRowAt c.args.key.now n row xs) c.deref.ensures.value
+    c.in-Ok.ensures.there in
     let had = c.replace_row-now.ensures.had c.args.key.now there in
-    let changed = table_changed c.args.key.now c.replace_row-now.result c.in-Some.bytes old c.replace_row-now.new.list.items n row (c.replace_row-now.ensures.rows c.args.key.now there) had c.args.self.now.rising in
-    λ other. changed.restored other ∙ ap (λ o. restored_at other c.args.key.now o (at_key other (rows_of (lists_of old)))) (sym c.in-Some.is)
+    let changed = table_changed c.args.key.now c.replace_row-now.result c.in-Some.bytes old
+    c.replace_row-now.new.list.items n row (c.replace_row-now.ensures.rows c.args.key.now there)
+    had c.args.self.now.rising in
+    λ other. changed.restored other
+    ∙ ap (λ o. restored_at other c.args.key.now o (at_key other (rows_of (lists_of old))))
+    (sym c.in-Some.is)
 
 -- there is no row of the key
 pub returns-in_default : goal.returns-in_default
@@ -67,6 +96,9 @@ returns-in_default c =
     let n = c.in_default.field-0.block in
     let row = c.in_default.field-0.row in
     let key = c.args.key.now in
-    let gap : IsGap key (rows_until n row old) (rows_at n row old) = subst (λ (xs : List Block). IsGap key (rows_until n row xs) (rows_at n row xs)) c.deref.ensures.value c.in_default.ensures.gap in
-    λ other. ap (at_key other) (both_sides n row old) ∙ restored_gap other key c.args.old (rows_until n row old) (rows_at n row old) gap
+    let gap : IsGap key (rows_until n row old) (rows_at n row old) =
+    subst (λ (xs : List Block). IsGap key (rows_until n row xs) (rows_at n row xs))
+    c.deref.ensures.value c.in_default.ensures.gap in
+    λ other. ap (at_key other) (both_sides n row old)
+    ∙ restored_gap other key c.args.old (rows_until n row old) (rows_at n row old) gap
     ∙ ap (λ rows. restored_at other key c.args.old (at_key other rows)) (sym (both_sides n row old))
