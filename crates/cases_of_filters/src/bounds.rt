@@ -1,7 +1,7 @@
 // Cases of bounds, of indexes that apply, and of plans.
 ghost use Rattle.std.specs.Prelude.{◌≡◌, true, IfSome};
 ghost use Rattle.gm_types.specs.Index.{has_index};
-ghost use Rattle.gm_filter.specs.Suits.{Suits};
+ghost use Rattle.gm_filter.specs.Suitability.{Suits};
 ghost use Rattle.gm_filter.specs.Tree.{tree};
 
 use crate::held::filter;

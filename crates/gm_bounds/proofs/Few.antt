@@ -3,7 +3,7 @@ use Rattle.std.proofs.Common.{◌≡◌, ℕ, ◌≤◌, Bool, true, false, ◌|
 use Rattle.std.proofs.Common.{Option, Some, None, cond, eqb, arith, subst}
 use Rattle.std.proofs.lemmas.Bool.{leb-true}
 use Rattle.std.specs.Prelude.{nat_le, option_to_list, pos, ◌+ℤ◌}
-use Rattle.gm_lexi.specs.After.{after_of}
+use Rattle.gm_lexi.specs.Ends.{after_of}
 use Rattle.gm_lexi.specs.Lexicode.{date_bytes}
 use Rattle.gm_types.specs.declared.kind.Kind.{Kind}
 use Rattle.gm_types.specs.Specification.{Specification, kind_at}

@@ -7,7 +7,7 @@ use Rattle.std.specs.Ordering.{nat_cmp, is_le, is_lt, is_gt, ordering_reverse}
 use Rattle.std.specs.declared.cmp.Ordering.{Ordering}
 use Rattle.std.specs.declared.cmp.Ordering.TheVariants.{Less, Equal, Greater}
 use Rattle.std.specs.Cmp.Lexicographic.{slice_cmp}
-use Rattle.gm_lexi.specs.After.{is_before, is_from_to}
+use Rattle.gm_lexi.specs.Ends.{is_before, is_from_to}
 use Rattle.gm_bounds.specs.declared.byte_range.ByteRange.{ByteRange}
 use Rattle.gm_bounds.specs.ByteRange.{met, joined, is_void, is_void_to, is_less, less, greater}
 use Rattle.gm_bounds.specs.ByteRange.{less_end, greater_end, is_form_in}

@@ -16,7 +16,7 @@ use Rattle.std.specs.Ordering.{int_cmp, is_le, is_lt, is_ge, MatchOrdering}
 use Rattle.std.specs.declared.cmp.Ordering.{Ordering}
 use Rattle.std.specs.declared.cmp.Ordering.TheVariants.{Less, Equal, Greater}
 use Rattle.gm_calendar.specs.Instant.{is_instant}
-use Rattle.gm_lexi.specs.After.{after_of}
+use Rattle.gm_lexi.specs.Ends.{after_of}
 use Rattle.gm_lexi.specs.Lexicode.{date_bytes, text_bytes}
 use Rattle.gm_types.specs.declared.kind.Kind.{Kind}
 use Rattle.gm_types.specs.declared.kind.Kind.TheVariants as kind
@@ -33,8 +33,8 @@ use Rattle.gm_filter.specs.declared.filter.Literal.{Literal}
 use Rattle.gm_filter.specs.declared.filter.Literal.TheVariants as literal
 use Rattle.gm_filter.specs.Comparison.{compares}
 use Rattle.gm_filter.specs.Like.{is_like, has_wildcard, plain_front}
-use Rattle.gm_filter.specs.Suits.{Suits, passes_kind, may_compare, may_lie_between, may_be_one_of}
-use Rattle.gm_filter.specs.Suits.{is_literal_of, is_op_of, is_ordered, is_text}
+use Rattle.gm_filter.specs.Suitability.{Suits, passes_kind, may_compare, may_lie_between, may_be_one_of}
+use Rattle.gm_filter.specs.Suitability.{is_literal_of, is_op_of, is_ordered, is_text}
 use Rattle.gm_filter.specs.Tree.{Tree, compare, between, like, one_of, during, before, after}
 use Rattle.gm_filter.specs.Tree.{tequals}
 use Rattle.gm_filter.specs.Truth.{is_true, lies_between, lies_during, is_one_of, is_text_like}

@@ -26,7 +26,7 @@ use Rattle.gm_feature.specs.declared.value.Value.{Value}
 use Rattle.gm_feature.specs.declared.value.Value.TheVariants as value
 use Rattle.gm_feature.specs.Feature.{Fits, value_at}
 use Rattle.gm_feature.specs.Value.{value_fits, is_of_kind}
-use Rattle.gm_filter.specs.Suits.{Suits, passes_kind, is_box, is_kept, has_area, is_point_kind}
+use Rattle.gm_filter.specs.Suitability.{Suits, passes_kind, is_box, is_kept, has_area, is_point_kind}
 use Rattle.gm_filter.specs.Tree.{Tree, bbox, intersects, within}
 use Rattle.gm_filter.specs.Trial.{IsKeptValue}
 use Rattle.gm_filter.specs.Truth.{is_true, meets, is_within}

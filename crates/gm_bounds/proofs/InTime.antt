@@ -23,7 +23,7 @@ use Rattle.gm_filter.specs.declared.filter.Op.TheVariants.{Eq, Ne, Lt, Le, Gt, G
 use Rattle.gm_filter.specs.declared.filter.Literal.{Literal}
 use Rattle.gm_filter.specs.declared.filter.Literal.TheVariants as literal
 use Rattle.gm_filter.specs.Comparison.{compares, passes}
-use Rattle.gm_filter.specs.Suits.{Suits}
+use Rattle.gm_filter.specs.Suitability.{Suits}
 use Rattle.gm_filter.specs.Tree.{Tree, compare, between, one_of, during, before, after, tequals}
 use Rattle.gm_filter.specs.Truth.{is_true, lies_between, lies_during, is_one_of}
 use Rattle.gm_bounds.specs.declared.interval.Interval.{Interval}

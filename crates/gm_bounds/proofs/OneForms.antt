@@ -25,7 +25,7 @@ use Rattle.byteorder.specs.Endian.{big_bytes, big_from}
 use Rattle.byteorder.specs.Numbers.{big_from-cons, big_from-lt, big_number-reads_back}
 use Rattle.byteorder.specs.Numbers.{length-bytes_high_first}
 use Rattle.gm_calendar.specs.Instant.{IsInstant, is_instant}
-use Rattle.gm_lexi.specs.After.{after_of}
+use Rattle.gm_lexi.specs.Ends.{after_of}
 use Rattle.gm_lexi.specs.Lexicode.{int_bytes, long_bytes, date_bytes, bool_bytes, text_bytes}
 use Rattle.gm_lexi.specs.Lexicode.{IsLexicalText}
 use Rattle.gm_types.specs.declared.kind.Kind.{Kind}

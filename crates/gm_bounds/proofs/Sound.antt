@@ -7,7 +7,7 @@ use Rattle.std.specs.Prelude.{fold, option_to_list, nat_le, length}
 use Rattle.std.specs.List.{list_any}
 use Rattle.gm_types.specs.Specification.{Specification}
 use Rattle.gm_feature.specs.declared.feature.Feature.{Feature}
-use Rattle.gm_filter.specs.Suits.{Suits, suits, all_suit}
+use Rattle.gm_filter.specs.Suitability.{Suits, suits, all_suit}
 use Rattle.gm_filter.specs.Tree.{Tree, Trees, include, exclude, negated, all, any, compare, between}
 use Rattle.gm_filter.specs.Tree.{like, one_of, is_null, ids, bbox, intersects, disjoint, within}
 use Rattle.gm_filter.specs.Tree.{during, before, after, tequals, no_trees, tree_and}

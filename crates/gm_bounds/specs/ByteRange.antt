@@ -3,7 +3,7 @@
 use Rattle.std.specs.Prelude.{ℕ, Bool, false, if◌then◌else◌, List, Option, Some, None}
 use Rattle.std.specs.Ordering.{nat_cmp, is_lt, is_le}
 use Rattle.std.specs.Cmp.Lexicographic.{slice_cmp}
-use Rattle.gm_lexi.specs.After.{is_from_to}
+use Rattle.gm_lexi.specs.Ends.{is_from_to}
 use Rattle.gm_bounds.specs.declared.byte_range.ByteRange.{ByteRange}
 
 abbrev pub range : List ℕ → Option (List ℕ) → ByteRange

@@ -9,7 +9,7 @@ use Rattle.gm_feature.specs.declared.value.Value.{Value}
 use Rattle.gm_feature.specs.declared.value.Value.TheVariants as value
 use Rattle.gm_feature.specs.Value.{is_below}
 use Rattle.gm_lexi.specs.Lexicode.{int_bytes, long_bytes, date_bytes, bool_bytes, text_bytes}
-use Rattle.gm_lexi.specs.After.{after_of}
+use Rattle.gm_lexi.specs.Ends.{after_of}
 use Rattle.gm_filter.specs.declared.filter.Op.{Op}
 use Rattle.gm_filter.specs.declared.filter.Op.TheVariants.{Eq, Ne, Lt, Le, Gt, Ge}
 use Rattle.gm_filter.specs.declared.filter.Literal.{Literal}

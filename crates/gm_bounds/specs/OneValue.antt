@@ -8,7 +8,7 @@ use Rattle.std.specs.Option.{option_eq}
 use Rattle.std.specs.Str.{bytes_eq, is_utf8}
 use Rattle.byteorder.specs.Endian.{big_number}
 use Rattle.gm_calendar.specs.Instant.{IsInstant, is_instant}
-use Rattle.gm_lexi.specs.After.{after_of}
+use Rattle.gm_lexi.specs.Ends.{after_of}
 use Rattle.gm_lexi.specs.Lexicode.{int_bytes, long_bytes, date_bytes, bool_bytes, text_bytes}
 use Rattle.gm_lexi.specs.Lexicode.{IsLexicalText}
 use Rattle.gm_types.specs.declared.kind.Kind.{Kind}

@@ -1,6 +1,6 @@
 // Which indexes apply to a filter.
 ghost use Rattle.std.specs.Prelude.{◌≡◌, ◌&&◌, IfOk};
-ghost use Rattle.gm_filter.specs.Suits.{Suits};
+ghost use Rattle.gm_filter.specs.Suitability.{Suits};
 ghost use Rattle.gm_filter.specs.Tree.{tree};
 ghost use Rattle.gm_bounds.specs.Applicability as spec;
 ghost use Rattle.gm_bounds.specs.Applicability.{does_apply};

@@ -9,7 +9,7 @@ ghost use Rattle.gm_types.specs.declared.kind.Kind.{Kind};
 ghost use Rattle.gm_types.specs.Specification.{Specification, default_geometry_of, default_date_of};
 ghost use Rattle.gm_feature.specs.declared.feature.Feature.{Feature};
 ghost use Rattle.gm_feature.specs.Feature.{Fits, value_at};
-ghost use Rattle.gm_filter.specs.Suits.{Suits};
+ghost use Rattle.gm_filter.specs.Suitability.{Suits};
 ghost use Rattle.gm_filter.specs.Tree.{Tree};
 ghost use Rattle.gm_filter.specs.Truth.{is_true};
 ghost use Rattle.gm_bounds.specs.declared.bound.Bound.TheVariants.{Listed};

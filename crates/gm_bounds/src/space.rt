@@ -3,7 +3,7 @@ ghost use Rattle.std.specs.Prelude.{◌≡◌, IfOk, None, map};
 ghost use Rattle.gm_geom.specs.Validity.{fault_of};
 ghost use Rattle.gm_types.specs.Index.{is_point_shape};
 ghost use Rattle.gm_types.specs.Specification.{default_shape_of};
-ghost use Rattle.gm_filter.specs.Suits.{Suits};
+ghost use Rattle.gm_filter.specs.Suitability.{Suits};
 ghost use Rattle.gm_filter.specs.Tree.{tree, trees_of};
 ghost use Rattle.gm_bounds.specs.Bound.{bound_of, all_of, any_of, on};
 ghost use Rattle.gm_bounds.specs.Lists.{single, nowhere, anywhere};

@@ -1,6 +1,6 @@
 // The intervals of a filter.
 ghost use Rattle.std.specs.Prelude.{◌≡◌, IfOk, OnOk, map, pos, ◌+ℤ◌, ◌-ℤ◌, Some, None, ◌++◌};
-ghost use Rattle.gm_filter.specs.Suits.{Suits};
+ghost use Rattle.gm_filter.specs.Suitability.{Suits};
 ghost use Rattle.gm_filter.specs.Tree.{tree, trees_of};
 ghost use Rattle.gm_bounds.specs.Bound.{bound_of, all_of, any_of, on};
 ghost use Rattle.gm_bounds.specs.Lists.{listed, kept, nowhere, anywhere};

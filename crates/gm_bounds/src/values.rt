@@ -1,11 +1,11 @@
 // The byte ranges of a filter.
 ghost use Rattle.std.specs.Prelude.{◌≡◌, ◌++◌, ◌+ℤ◌, pos, IfOk, OnOk, Some, None, map};
-ghost use Rattle.gm_lexi.specs.After.{after_of};
+ghost use Rattle.gm_lexi.specs.Ends.{after_of};
 ghost use Rattle.gm_lexi.specs.Lexicode.{date_bytes};
 ghost use Rattle.gm_types.specs.Index.{is_indexed_one};
 ghost use Rattle.gm_types.specs.Specification.{kind_at};
 ghost use Rattle.gm_filter.specs.Like as like;
-ghost use Rattle.gm_filter.specs.Suits.{Suits};
+ghost use Rattle.gm_filter.specs.Suitability.{Suits};
 ghost use Rattle.gm_filter.specs.Tree.{tree, trees_of};
 ghost use Rattle.gm_bounds.specs.Bound.{bound_of, all_of, any_of, on};
 ghost use Rattle.gm_bounds.specs.ByteRange as range;

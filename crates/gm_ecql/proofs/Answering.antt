@@ -4,13 +4,13 @@ use Rattle.std.proofs.Common.{refl, sym, ap, ◌∙◌, subst, ◌⊎◌, inl, i
 use Rattle.std.specs.Prelude.{Result, Ok, Err}
 use Rattle.gm_ecql.specs.declared.fault.FilterFault.{FilterFault}
 use Rattle.gm_ecql.specs.declared.fault.FilterFault.TheVariants as fault
-use Rattle.gm_ecql.specs.Faults.{IsOutOfGrammar, IsSyntaxFault, IsLimitFault, StandsFor, HasUnknown}
-use Rattle.gm_ecql.specs.Faults.{HasBad, IsFault}
+use Rattle.gm_ecql.specs.Fault.{IsOutOfGrammar, IsSyntaxFault, IsLimitFault, StandsFor, HasUnknown}
+use Rattle.gm_ecql.specs.Fault.{HasBad, IsFault}
 use Rattle.gm_ecql.specs.Judging.{NameFaults, faultless}
 use Rattle.gm_ecql.specs.Limits.{are_within, are_numbers_apart}
 use Rattle.gm_ecql.specs.Outcome.{tokens_of, kept_tokens, if_sound, if_faultless, if_parsed}
 use Rattle.gm_ecql.specs.Outcome.{outcome_by, KeepsLimits, Answers}
-use Rattle.gm_ecql.specs.Tokens.{Seen, SpellsTokens, unspaced}
+use Rattle.gm_ecql.specs.Token.{Seen, SpellsTokens, unspaced}
 use Rattle.gm_ecql.proofs.Lists.{one_list}
 use Rattle.gm_ecql.proofs.Outcomes.{tokens_sound, tokens_complete, none_spelled}
 

@@ -10,9 +10,9 @@ use Rattle.gm_ecql.specs.Change.{assigned, kept_value, place_and_kind, assignmen
 use Rattle.gm_ecql.specs.Change.{assignment_tokens_at, change_judged, change_document}
 use Rattle.gm_ecql.specs.Judging.{NameFaults, Judged, faultless, first_name, first_faults}
 use Rattle.gm_ecql.specs.Outcome.{MayHold}
-use Rattle.gm_ecql.specs.Parsing.{document}
-use Rattle.gm_ecql.specs.Reading.{◌>>=◌}
-use Rattle.gm_ecql.specs.Tokens.{Seen}
+use Rattle.gm_ecql.specs.Parser.{document}
+use Rattle.gm_ecql.specs.Reader.{◌>>=◌}
+use Rattle.gm_ecql.specs.Token.{Seen}
 
 same_some : {A : Type 0} (x y : A) → Some x ≡ Some y → x ≡ y
 same_some x y e = cc

@@ -11,8 +11,8 @@ use Rattle.gm_ecql.specs.Change.{assignment_tokens_at, assignment_of, change_jud
 use Rattle.gm_ecql.specs.Change.{change_document}
 use Rattle.gm_ecql.specs.Halt.{Halts}
 use Rattle.gm_ecql.specs.Judging.{NameFaults, Judged, first_faults}
-use Rattle.gm_ecql.specs.Parsing.{document}
-use Rattle.gm_ecql.specs.Tokens.{Seen, seen_all}
+use Rattle.gm_ecql.specs.Parser.{document}
+use Rattle.gm_ecql.specs.Token.{Seen, seen_all}
 use Rattle.gm_ecql.proofs.ChangesRead.{change_complete}
 use Rattle.gm_ecql.proofs.TestFirst.{no_some}
 

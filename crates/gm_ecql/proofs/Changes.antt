@@ -4,18 +4,18 @@ use Rattle.std.proofs.Common.{subst}
 use Rattle.std.specs.Prelude.{Result, Ok, Err}
 use Rattle.gm_types.specs.Specification.{Specification}
 use Rattle.gm_feature.specs.declared.value.Value.{Value}
-use Rattle.gm_filter.specs.Suits.{Suits}
+use Rattle.gm_filter.specs.Suitability.{Suits}
 use Rattle.gm_filter.specs.Tree.{Tree, tree}
 use Rattle.gm_ecql.specs.declared.change.Change.{Change}
 use Rattle.gm_ecql.specs.declared.fault.FilterFault.{FilterFault}
 use Rattle.gm_ecql.specs.declared.fault.FilterFault.TheVariants as fault
 use Rattle.gm_ecql.specs.Change.{JudgedChange, change_document}
-use Rattle.gm_ecql.specs.Faults.{IsChangeOf, SpellsChange, StandsFor, IsFault, IsChangeAnswer}
+use Rattle.gm_ecql.specs.Fault.{IsChangeOf, SpellsChange, StandsFor, IsFault, IsChangeAnswer}
 use Rattle.gm_ecql.specs.Judging.{faultless}
 use Rattle.gm_ecql.specs.Limits.{are_numbers_apart}
 use Rattle.gm_ecql.specs.Outcome.{Meant, meant, meant_by, change_outcome, KeepsLimits, Answers}
 use Rattle.gm_ecql.specs.Outcome.{MayHold}
-use Rattle.gm_ecql.specs.Tokens.{Seen, unspaced}
+use Rattle.gm_ecql.specs.Token.{Seen, unspaced}
 use Rattle.gm_ecql.proofs.Answering.{fault_is, ok_is, only_ok, keeps_limits}
 use Rattle.gm_ecql.proofs.Assigned.{change_holds}
 use Rattle.gm_ecql.proofs.Documents.{change_sound, change_complete, change_suits, spelled_utf8}

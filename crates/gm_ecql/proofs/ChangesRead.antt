@@ -4,7 +4,7 @@ use Rattle.std.proofs.Common.{length, Option, Some, None, option_map, refl, sym,
 use Rattle.std.proofs.Common.{append_assoc, append-nil, ◌⊎◌, inl, inr}
 use Rattle.std.specs.List.{list_all}
 use Rattle.gm_types.specs.Specification.{Specification}
-use Rattle.gm_filter.specs.Suits.{Suits}
+use Rattle.gm_filter.specs.Suitability.{Suits}
 use Rattle.gm_ecql.specs.declared.keyword.Keyword.{Keyword}
 use Rattle.gm_ecql.specs.declared.keyword.Keyword.TheVariants as keyword
 use Rattle.gm_ecql.specs.Change.{New, new_literal, new_geometry, new_null, new_tokens, IsNew}
@@ -13,11 +13,11 @@ use Rattle.gm_ecql.specs.Change.{change_document, Assignment, JudgedChange, Spel
 use Rattle.gm_ecql.specs.Geometry.{piece_at, cut_behind, group_count, is_geometry_word}
 use Rattle.gm_ecql.specs.Grammar.{literal_token, IsGeometryPiece, SpellsJudged}
 use Rattle.gm_ecql.specs.Judging.{Judged, faultless}
-use Rattle.gm_ecql.specs.Parsing.{document}
+use Rattle.gm_ecql.specs.Parser.{document}
 use Rattle.gm_ecql.specs.Places.{keyword_place}
-use Rattle.gm_ecql.specs.Reading.{Reader, ◌>>=◌, or_else, after_keyword, name_at, constant_at}
+use Rattle.gm_ecql.specs.Reader.{Reader, ◌>>=◌, or_else, after_keyword, name_at, constant_at}
 use Rattle.gm_ecql.specs.Test.{Written}
-use Rattle.gm_ecql.specs.Tokens.{Seen, a_keyword, a_name, a_text, an_instant, a_number, a_symbol}
+use Rattle.gm_ecql.specs.Token.{Seen, a_keyword, a_name, a_text, an_instant, a_number, a_symbol}
 use Rattle.gm_ecql.specs.Words.{begins_geometry}
 use Rattle.gm_ecql.proofs.Places.{same_keyword}
 use Rattle.gm_ecql.proofs.Readers.{keyword_first, keyword_found, name_first}

@@ -6,7 +6,7 @@ use Rattle.std.specs.List.{list_all, prefix_len}
 use Rattle.std.specs.Char.{is_ascii_digit}
 use Rattle.std.proofs.lemmas.Bool.Decides.{nat_tests}
 use Rattle.gm_calendar.specs.Spelling.{has_date_form, is_instant_byte}
-use Rattle.gm_ecql.specs.Tokens.{Starts}
+use Rattle.gm_ecql.specs.Token.{Starts}
 use Rattle.gm_ecql.proofs.Scans.{both}
 
 pub record Dated (s : List ℕ) : Type 0 where

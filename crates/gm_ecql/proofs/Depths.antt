@@ -4,8 +4,8 @@ use Rattle.std.proofs.Common.{length, get_or, drop, refl, sym, ap, ◌∙◌, ar
 use Rattle.gm_ecql.specs.declared.token.Spaced.{Spaced}
 use Rattle.gm_ecql.specs.declared.token.Symbol.TheVariants as symbol
 use Rattle.gm_ecql.specs.Limits.{depth_behind, deepest}
-use Rattle.gm_ecql.specs.Tokens.{Seen, a_keyword, a_name, a_text, an_instant, a_number, a_symbol}
-use Rattle.gm_ecql.specs.Tokens.{seen, seen_all}
+use Rattle.gm_ecql.specs.Token.{Seen, a_keyword, a_name, a_text, an_instant, a_number, a_symbol}
+use Rattle.gm_ecql.specs.Token.{seen, seen_all}
 
 pub split_seen : (xs : List Spaced) (i : ℕ) (x : Spaced) → i < length xs → x ≡ get_or xs i x
     → seen_all (drop i xs) ≡ seen x.token ∷ seen_all (drop (i + 1) xs)

@@ -8,9 +8,9 @@ use Rattle.gm_ecql.specs.declared.token.Spaced.{Spaced}
 use Rattle.gm_ecql.specs.Grammar.{SpellsJudged}
 use Rattle.gm_ecql.specs.Halt.{Halts}
 use Rattle.gm_ecql.specs.Judging.{Judged}
-use Rattle.gm_ecql.specs.Parsing.{document, factor_at, filter_with, if_last}
-use Rattle.gm_ecql.specs.Reading.{◌>>=◌}
-use Rattle.gm_ecql.specs.Tokens.{Seen, seen_all}
+use Rattle.gm_ecql.specs.Parser.{document, factor_at, filter_with, if_last}
+use Rattle.gm_ecql.specs.Reader.{◌>>=◌}
+use Rattle.gm_ecql.specs.Token.{Seen, seen_all}
 use Rattle.gm_ecql.proofs.GrammarFound.{document_complete}
 use Rattle.gm_ecql.proofs.GrammarSound.{document_sound}
 use Rattle.gm_ecql.proofs.TestFirst.{no_some}

@@ -4,13 +4,13 @@ use Rattle.std.proofs.Common.{◌≡◌, ℕ, Bool, true, false, ◌&&◌, List,
 use Rattle.std.proofs.Common.{ap}
 use Rattle.std.proofs.lemmas.Str.{is_utf8-from_IsUtf8}
 use Rattle.gm_types.specs.Specification.{Specification}
-use Rattle.gm_filter.specs.Suits.{Suits}
+use Rattle.gm_filter.specs.Suitability.{Suits}
 use Rattle.gm_ecql.specs.Change.{JudgedChange, SpellsChangeJudged, change_document}
 use Rattle.gm_ecql.specs.Grammar.{SpellsJudged}
 use Rattle.gm_ecql.specs.Judging.{Judged, faultless}
-use Rattle.gm_ecql.specs.Parsing.{document}
-use Rattle.gm_ecql.specs.Tokens.{Seen, a_keyword, a_name, a_text, an_instant, a_number, a_symbol}
-use Rattle.gm_ecql.specs.Tokens.{IsPiece, Spells, SpellsTokens, unspaced}
+use Rattle.gm_ecql.specs.Parser.{document}
+use Rattle.gm_ecql.specs.Token.{Seen, a_keyword, a_name, a_text, an_instant, a_number, a_symbol}
+use Rattle.gm_ecql.specs.Token.{IsPiece, Spells, SpellsTokens, unspaced}
 use Rattle.gm_ecql.proofs.ChangesRead as changes
 use Rattle.gm_ecql.proofs.GrammarFound as found
 use Rattle.gm_ecql.proofs.GrammarSound as sound

@@ -4,7 +4,7 @@ use Rattle.std.proofs.Common.{encode_utf8, encode_utf8_all, IsUtf8, chars, appen
 use Rattle.std.proofs.Common.{ap, ◌∙◌}
 use Rattle.std.specs.Str.{all_scalars}
 use Rattle.std.proofs.lemmas.Str.{encodes-chars}
-use Rattle.gm_ecql.specs.Tokens.{doubled}
+use Rattle.gm_ecql.specs.Token.{doubled}
 use Rattle.gm_ecql.proofs.Scans.{both}
 use Rattle.gm_ecql.proofs.Undoubling.{QuoteFree, free_char, quote_char, quote_first, scalars_first}
 

@@ -4,16 +4,16 @@ use Rattle.std.proofs.Common.{subst}
 use Rattle.std.specs.Prelude.{Result, Ok, Err}
 use Rattle.gm_types.specs.Specification.{Specification}
 use Rattle.gm_filter.specs.declared.filter.Filter.{Filter}
-use Rattle.gm_filter.specs.Suits.{Suits}
+use Rattle.gm_filter.specs.Suitability.{Suits}
 use Rattle.gm_filter.specs.Tree.{Tree, tree}
 use Rattle.gm_ecql.specs.declared.fault.FilterFault.{FilterFault}
 use Rattle.gm_ecql.specs.declared.fault.FilterFault.TheVariants as fault
-use Rattle.gm_ecql.specs.Faults.{IsFilterOf, SpellsFilter, StandsFor, IsFault, IsAnswer}
+use Rattle.gm_ecql.specs.Fault.{IsFilterOf, SpellsFilter, StandsFor, IsFault, IsAnswer}
 use Rattle.gm_ecql.specs.Judging.{Judged, faultless}
 use Rattle.gm_ecql.specs.Limits.{are_numbers_apart}
 use Rattle.gm_ecql.specs.Outcome.{filter_outcome, KeepsLimits, Answers}
-use Rattle.gm_ecql.specs.Parsing.{document}
-use Rattle.gm_ecql.specs.Tokens.{Seen, unspaced}
+use Rattle.gm_ecql.specs.Parser.{document}
+use Rattle.gm_ecql.specs.Token.{Seen, unspaced}
 use Rattle.gm_ecql.proofs.Answering.{fault_is, ok_is, only_ok, keeps_limits}
 use Rattle.gm_ecql.proofs.Documents.{document_sound, document_complete, document_suits}
 use Rattle.gm_ecql.proofs.Documents.{spelled_utf8}

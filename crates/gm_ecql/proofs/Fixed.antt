@@ -21,7 +21,7 @@ use Rattle.gm_feature.specs.Value.{is_below}
 use Rattle.gm_geom.specs.Number.{number_of, if_number, fixed_of, fixed_text, fraction_text}
 use Rattle.gm_geom.specs.Number.{places_of, degree, digits_at, behind_digits, fraction_at}
 use Rattle.gm_geom.specs.Number.{behind_fraction, exponent_of, mantissa_number, unsigned_number}
-use Rattle.gm_ecql.specs.Tokens.{a_number, is_number_start}
+use Rattle.gm_ecql.specs.Token.{a_number, is_number_start}
 use Rattle.gm_ecql.proofs.PrintedNumbers.{IsSigned, is_no_dash, number_piece}
 use Rattle.gm_ecql.proofs.Scans.{both, take_run, drop_run}
 use Rattle.gm_ecql.proofs.Sequences.{Printed}

@@ -7,10 +7,10 @@ use Rattle.gm_ecql.specs.declared.halt.Halt.{Halt}
 use Rattle.gm_ecql.specs.declared.halt.Halt.TheVariants as halt
 use Rattle.gm_ecql.specs.declared.token.Symbol.TheVariants as symbol
 use Rattle.gm_ecql.specs.Halt.{Halts}
-use Rattle.gm_ecql.specs.Reading.{Reader, ◌>>=◌, after_symbol, text_at, constant_at, separator_at}
-use Rattle.gm_ecql.specs.Reading.{member_then, members_at, list_at}
+use Rattle.gm_ecql.specs.Reader.{Reader, ◌>>=◌, after_symbol, text_at, constant_at, separator_at}
+use Rattle.gm_ecql.specs.Reader.{member_then, members_at, list_at}
 use Rattle.gm_ecql.specs.Test.{Written}
-use Rattle.gm_ecql.specs.Tokens.{Seen}
+use Rattle.gm_ecql.specs.Token.{Seen}
 use Rattle.gm_ecql.proofs.Readers.{text_first}
 use Rattle.gm_ecql.proofs.TestFirst.{constant_first, separator_first}
 

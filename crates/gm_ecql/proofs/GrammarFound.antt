@@ -15,12 +15,12 @@ use Rattle.gm_ecql.specs.Grammar.{IsTest, test_tokens, Members, no_members, add_
 use Rattle.gm_ecql.specs.Grammar.{grouped, negated_of, factor_judged, factors_judged, terms_judged}
 use Rattle.gm_ecql.specs.Grammar.{SpellsJudged, closing}
 use Rattle.gm_ecql.specs.Judging.{Judged, judged}
-use Rattle.gm_ecql.specs.Parsing.{judged_at, members_with, more, chain, term_with, filter_with}
-use Rattle.gm_ecql.specs.Parsing.{closed, factor_step, factor_at, if_last, document}
-use Rattle.gm_ecql.specs.Reading.{Reader, ◌>>=◌, or_else, after_keyword, after_symbol, test_at}
+use Rattle.gm_ecql.specs.Parser.{judged_at, members_with, more, chain, term_with, filter_with}
+use Rattle.gm_ecql.specs.Parser.{closed, factor_step, factor_at, if_last, document}
+use Rattle.gm_ecql.specs.Reader.{Reader, ◌>>=◌, or_else, after_keyword, after_symbol, test_at}
 use Rattle.gm_ecql.specs.Test.{Trial, include, exclude, ids, named, in_box, related, compared}
 use Rattle.gm_ecql.specs.Test.{between, like, one_of, null, during, timed}
-use Rattle.gm_ecql.specs.Tokens.{Seen, a_keyword, a_symbol}
+use Rattle.gm_ecql.specs.Token.{Seen, a_keyword, a_symbol}
 use Rattle.gm_ecql.proofs.TestFirst.{some_is, no_some, mapped}
 use Rattle.gm_ecql.proofs.TestFound.{test_found}
 

@@ -14,10 +14,10 @@ use Rattle.gm_ecql.specs.Grammar.{Members, no_members, add_member, with_member, 
 use Rattle.gm_ecql.specs.Grammar.{factor_judged, factors_judged, terms_judged, SpellsJudged}
 use Rattle.gm_ecql.specs.Grammar.{closing}
 use Rattle.gm_ecql.specs.Judging.{Judged, judged}
-use Rattle.gm_ecql.specs.Parsing.{judged_at, members_with, more, chain, term_with, filter_with}
-use Rattle.gm_ecql.specs.Parsing.{closed, factor_step, factor_at, if_last, document}
-use Rattle.gm_ecql.specs.Reading.{Reader, ◌>>=◌, or_else, after_keyword, after_symbol, test_at}
-use Rattle.gm_ecql.specs.Tokens.{Seen, a_keyword, a_symbol}
+use Rattle.gm_ecql.specs.Parser.{judged_at, members_with, more, chain, term_with, filter_with}
+use Rattle.gm_ecql.specs.Parser.{closed, factor_step, factor_at, if_last, document}
+use Rattle.gm_ecql.specs.Reader.{Reader, ◌>>=◌, or_else, after_keyword, after_symbol, test_at}
+use Rattle.gm_ecql.specs.Token.{Seen, a_keyword, a_symbol}
 use Rattle.gm_ecql.proofs.Readers.{keyword_first, symbol_first}
 use Rattle.gm_ecql.proofs.TestFirst.{some_is, no_some, bound, mapped, chose}
 use Rattle.gm_ecql.proofs.TestSound.{TestThere, test_there}

@@ -4,7 +4,7 @@ use Rattle.std.proofs.Common.{Some, None, refl, sym, ap, ◌∙◌, subst, eqb-t
 use Rattle.std.specs.Prelude.{ℤ}
 use Rattle.std.specs.List.{list_all}
 use Rattle.gm_calendar.specs.Spelling.{instant_of, is_instant_byte}
-use Rattle.gm_ecql.specs.Tokens.{undoubled, undoubled_from}
+use Rattle.gm_ecql.specs.Token.{undoubled, undoubled_from}
 use Rattle.gm_ecql.proofs.Scans.{both}
 
 quote_is_none : {P : Type 0} (b : ℕ) → (b == 39) ≡ true → is_instant_byte b ≡ true → P

@@ -11,10 +11,10 @@ use Rattle.gm_ecql.specs.declared.keyword.Keyword.{Keyword}
 use Rattle.gm_ecql.specs.declared.token.Symbol.{Symbol}
 use Rattle.gm_ecql.specs.declared.token.Symbol.TheVariants as symbol
 use Rattle.gm_ecql.specs.Limits.{is_number, are_apart_behind, are_numbers_apart}
-use Rattle.gm_ecql.specs.Tokens.{Seen, a_keyword, a_name, a_text, an_instant, a_number, a_symbol}
-use Rattle.gm_ecql.specs.Tokens.{is_blank, is_word_byte, is_single, is_number_tail, is_less_tail}
-use Rattle.gm_ecql.specs.Tokens.{is_more_tail, Stops, IsPiece, IsFirst, Spells, SpellsTokens}
-use Rattle.gm_ecql.specs.Tokens.{IsUnspaced, symbol_text, unspaced}
+use Rattle.gm_ecql.specs.Token.{Seen, a_keyword, a_name, a_text, an_instant, a_number, a_symbol}
+use Rattle.gm_ecql.specs.Token.{is_blank, is_word_byte, is_single, is_number_tail, is_less_tail}
+use Rattle.gm_ecql.specs.Token.{is_more_tail, Stops, IsPiece, IsFirst, Spells, SpellsTokens}
+use Rattle.gm_ecql.specs.Token.{IsUnspaced, symbol_text, unspaced}
 
 pub record Lexeme : Type 0 where
   pub blank : Bool

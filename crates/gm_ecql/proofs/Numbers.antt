@@ -11,8 +11,8 @@ use Rattle.std.proofs.lemmas.Bool.Decides.{nat_tests}
 use Rattle.gm_geom.specs.Number.{number_of, digits_at, behind_digits, has_point, fraction_at}
 use Rattle.gm_geom.specs.Number.{behind_fraction, is_exponent, marked_exponent, exponent_of}
 use Rattle.gm_geom.specs.Number.{mantissa_number, unsigned_number}
-use Rattle.gm_ecql.specs.Tokens.{Stops, is_sign, is_number_tail}
-use Rattle.gm_ecql.specs.Scanning.{is_e, goes_on, number_end}
+use Rattle.gm_ecql.specs.Token.{Stops, is_sign, is_number_tail}
+use Rattle.gm_ecql.specs.Scanner.{is_e, goes_on, number_end}
 use Rattle.gm_ecql.proofs.Scans.{both}
 use Rattle.gm_ecql.proofs.Sound.{end_from}
 

@@ -2,12 +2,12 @@
 use Rattle.std.proofs.Common.{◌≡◌, ℕ, List, Some, sym, ◌∙◌, ap, subst}
 use Rattle.gm_types.specs.Specification.{Specification}
 use Rattle.gm_feature.specs.declared.value.Value.{Value}
-use Rattle.gm_filter.specs.Suits.{Suits}
+use Rattle.gm_filter.specs.Suitability.{Suits}
 use Rattle.gm_filter.specs.Tree.{Tree}
 use Rattle.gm_ecql.specs.Change.{JudgedChange, change_document}
-use Rattle.gm_ecql.specs.Faults.{SpellsFilter, SpellsChange}
-use Rattle.gm_ecql.specs.Parsing.{document}
-use Rattle.gm_ecql.specs.Tokens.{unspaced}
+use Rattle.gm_ecql.specs.Fault.{SpellsFilter, SpellsChange}
+use Rattle.gm_ecql.specs.Parser.{document}
+use Rattle.gm_ecql.specs.Token.{unspaced}
 use Rattle.gm_ecql.proofs.Documents.{document_complete, change_complete, document_suits}
 use Rattle.gm_ecql.proofs.Documents.{spelled_utf8}
 use Rattle.gm_ecql.proofs.Lists.{one_list}

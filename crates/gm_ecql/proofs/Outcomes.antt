@@ -8,9 +8,9 @@ use Rattle.gm_ecql.specs.declared.halt.Halt.TheVariants as halt
 use Rattle.gm_ecql.specs.Halt.{Gives}
 use Rattle.std.specs.List.{prefix_len}
 use Rattle.gm_ecql.specs.declared.token.Spaced.{Spaced}
-use Rattle.gm_ecql.specs.Tokens.{Seen, is_blank, is_some_list, IsUnspaced, Spells, SpellsTokens}
-use Rattle.gm_ecql.specs.Tokens.{seen, seen_spaced, seen_all, unspaced}
-use Rattle.gm_ecql.specs.Scanning.{Found, token_at, skip_blanks}
+use Rattle.gm_ecql.specs.Token.{Seen, is_blank, is_some_list, IsUnspaced, Spells, SpellsTokens}
+use Rattle.gm_ecql.specs.Token.{seen, seen_spaced, seen_all, unspaced}
+use Rattle.gm_ecql.specs.Scanner.{Found, token_at, skip_blanks}
 use Rattle.gm_ecql.specs.Outcome.{has_blank_first, listed_with, tokens_within, tokens_of}
 use Rattle.gm_ecql.proofs.Sound.{chosen}
 use Rattle.gm_ecql.proofs.Lists.{first_found, found_first, no_found, token_nil, token_shorter}

@@ -17,8 +17,8 @@ use Rattle.gm_geom.specs.declared.validity.GeomFault.TheVariants.{Many, Range, S
 use Rattle.gm_geom.specs.Geometry.{joined, points_of}
 use Rattle.gm_geom.specs.Number.{fixed_text}
 use Rattle.gm_geom.specs.Validity.{is_within, is_in_world, fault_of}
-use Rattle.gm_wkt.specs.Printing.{position_text, members_text, separator_text, list_text, line_text}
-use Rattle.gm_wkt.specs.Printing.{rings_text, lone_text, body_text, printed, FitsPoint}
+use Rattle.gm_wkt.specs.Printer.{position_text, members_text, separator_text, list_text, line_text}
+use Rattle.gm_wkt.specs.Printer.{rings_text, lone_text, body_text, printed, FitsPoint}
 use Rattle.gm_ecql.specs.declared.keyword.Keyword.{Keyword}
 use Rattle.gm_ecql.specs.declared.keyword.Keyword.TheVariants as keyword
 use Rattle.gm_ecql.specs.Geometry.{group_count, cut_behind, piece_at, text_behind, gap_text}
@@ -26,7 +26,7 @@ use Rattle.gm_ecql.specs.Geometry.{token_text}
 use Rattle.gm_ecql.specs.Geometry as piece
 use Rattle.gm_ecql.specs.Grammar.{comma, opening, closing, IsGeometryPiece}
 use Rattle.gm_ecql.specs.Limits.{depth_behind, is_number}
-use Rattle.gm_ecql.specs.Tokens.{Seen, a_keyword, a_number}
+use Rattle.gm_ecql.specs.Token.{Seen, a_keyword, a_number}
 use Rattle.gm_ecql.specs.Words.{begins_geometry, keyword_text}
 use Rattle.gm_ecql.proofs.Lexemes.{lead, Lexed}
 use Rattle.gm_ecql.proofs.PrintedWords.{keyword_piece}

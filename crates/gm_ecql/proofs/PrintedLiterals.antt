@@ -10,16 +10,16 @@ use Rattle.gm_calendar.specs.Spelling.{instant_text, instant_of, has_date_form, 
 use Rattle.gm_feature.specs.Value.{is_below}
 use Rattle.gm_filter.specs.declared.filter.Literal.{Literal}
 use Rattle.gm_filter.specs.declared.filter.Literal.TheVariants as literal
-use Rattle.gm_filter.specs.Suits.{is_literal_of}
+use Rattle.gm_filter.specs.Suitability.{is_literal_of}
 use Rattle.gm_types.specs.declared.kind.Kind.{Kind}
 use Rattle.gm_types.specs.declared.kind.Kind.TheVariants as kind
 use Rattle.gm_types.specs.Kind.{is_date}
 use Rattle.gm_ecql.specs.declared.keyword.Keyword.TheVariants as keyword
 use Rattle.gm_ecql.specs.Grammar.{literal_token, by_commas, comma}
 use Rattle.gm_ecql.specs.Judging.{literal_of, literals_of, add_first}
-use Rattle.gm_ecql.specs.Printing.{literal_text, truth_text}
+use Rattle.gm_ecql.specs.Printer.{literal_text, truth_text}
 use Rattle.gm_ecql.specs.Test.{Written, of_text, of_number, of_instant, of_truth}
-use Rattle.gm_ecql.specs.Tokens.{Seen, an_instant}
+use Rattle.gm_ecql.specs.Token.{Seen, an_instant}
 use Rattle.gm_ecql.proofs.Doubling.{doubled_utf8}
 use Rattle.gm_ecql.proofs.Fixed.{whole_printed}
 use Rattle.gm_ecql.proofs.Lexemes.{ends_instant}

@@ -16,8 +16,8 @@ use Rattle.gm_types.specs.FeatureType.{IsType, is_attribute}
 use Rattle.gm_types.specs.Attribute.{is_described}
 use Rattle.gm_types.specs.Specification.{Specification, place_of_name, kind_at, names_of}
 use Rattle.gm_types.specs.Words.{same_text, are_distinct, is_name}
-use Rattle.gm_ecql.specs.Printing.{name_at, name_if, name_text}
-use Rattle.gm_ecql.specs.Tokens.{a_name, is_word_byte}
+use Rattle.gm_ecql.specs.Printer.{name_at, name_if, name_text}
+use Rattle.gm_ecql.specs.Token.{a_name, is_word_byte}
 use Rattle.gm_ecql.proofs.PrintedWords.{name_bytes, name_piece}
 use Rattle.gm_ecql.proofs.Scans.{both}
 use Rattle.gm_ecql.proofs.Sequences.{Printed}

@@ -13,7 +13,7 @@ use Rattle.std.proofs.lemmas.Bool.Decides.{nat_tests}
 use Rattle.gm_calendar.specs.Spelling.{has_date_form, is_instant_byte}
 use Rattle.gm_geom.specs.Number.{number_of, unsigned_number, digits_at, behind_digits, fixed_of}
 use Rattle.gm_geom.specs.Number.{fixed_text, is_number_byte}
-use Rattle.gm_ecql.specs.Tokens.{a_number, is_number_start, Starts, IsPiece}
+use Rattle.gm_ecql.specs.Token.{a_number, is_number_start, Starts, IsPiece}
 use Rattle.gm_ecql.proofs.Dates.{date_shape, date_first}
 use Rattle.gm_ecql.proofs.Lexemes.{Ends, is_end, ends_number}
 use Rattle.gm_ecql.proofs.Scans.{both, take_run, drop_run}

@@ -16,13 +16,13 @@ use Rattle.gm_geom.specs.declared.point.Point.{Point}
 use Rattle.gm_geom.specs.Number.{fixed_of, fixed_text}
 use Rattle.gm_geom.specs.Validity.{fault_of, is_in_world}
 use Rattle.gm_wkt.specs.Answer.{answer_of}
-use Rattle.gm_wkt.specs.Printing as wkt
+use Rattle.gm_wkt.specs.Printer as wkt
 use Rattle.gm_filter.specs.declared.filter.Op.{Op}
 use Rattle.gm_filter.specs.declared.filter.Op.TheVariants as op
 use Rattle.gm_filter.specs.declared.filter.Literal.{Literal}
-use Rattle.gm_filter.specs.Suits.{Suits, suits, is_literal_of, is_kept, has_area, is_box}
-use Rattle.gm_filter.specs.Suits.{passes_kind, may_compare, may_lie_between, may_be_one_of}
-use Rattle.gm_filter.specs.Suits.{is_op_of, is_ordered}
+use Rattle.gm_filter.specs.Suitability.{Suits, suits, is_literal_of, is_kept, has_area, is_box}
+use Rattle.gm_filter.specs.Suitability.{passes_kind, may_compare, may_lie_between, may_be_one_of}
+use Rattle.gm_filter.specs.Suitability.{is_op_of, is_ordered}
 use Rattle.gm_filter.specs.Tree as tree
 use Rattle.gm_filter.specs.Tree.{Tree}
 use Rattle.gm_types.specs.declared.kind.Kind.{Kind}
@@ -43,12 +43,12 @@ use Rattle.gm_ecql.specs.Grammar.{relation_word, timing_word, test_tokens, IsTes
 use Rattle.gm_ecql.specs.Judging.{Judged, sound, bad, kept, candidate, judged_at, judged}
 use Rattle.gm_ecql.specs.Judging.{is_date_kind, literal_of, lies, timed_of, between_literals}
 use Rattle.gm_ecql.specs.Judging.{box_of, fixed_in_range, value_in_range, point_of, box_between}
-use Rattle.gm_ecql.specs.Printing.{name_at, name_text, op_text, quoted_text, literal_text, commas}
-use Rattle.gm_ecql.specs.Printing.{corner_text, related_text, timed_text, test_text}
+use Rattle.gm_ecql.specs.Printer.{name_at, name_text, op_text, quoted_text, literal_text, commas}
+use Rattle.gm_ecql.specs.Printer.{corner_text, related_text, timed_text, test_text}
 use Rattle.gm_ecql.specs.Test.{Written, Sides, Question, in_box, related, compared, between, like}
 use Rattle.gm_ecql.specs.Test.{one_of, null, during, timed, Trial, include, exclude, ids, named}
-use Rattle.gm_ecql.specs.Tokens.{Seen, a_keyword, a_name, a_text, an_instant, a_number, a_symbol}
-use Rattle.gm_ecql.specs.Tokens.{symbol_text}
+use Rattle.gm_ecql.specs.Token.{Seen, a_keyword, a_name, a_text, an_instant, a_number, a_symbol}
+use Rattle.gm_ecql.specs.Token.{symbol_text}
 use Rattle.gm_ecql.specs.Words.{keyword_text}
 use Rattle.gm_ecql.proofs.Doubling.{doubled_utf8}
 use Rattle.gm_ecql.proofs.Fixed.{fixed_printed}

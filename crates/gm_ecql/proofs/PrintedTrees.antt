@@ -3,7 +3,7 @@ use Rattle.std.proofs.Common.{◌≡◌, ℕ, ◌<◌, ◌≤◌, Bool, true, fa
 use Rattle.std.proofs.Common.{length, codes, Option, Some, None, option_map, refl, sym, ◌∙◌, ap}
 use Rattle.std.proofs.Common.{subst, arith, append_assoc, append-nil}
 use Rattle.std.specs.Prelude.{nat_le}
-use Rattle.gm_filter.specs.Suits.{Suits, suits, all_suit}
+use Rattle.gm_filter.specs.Suitability.{Suits, suits, all_suit}
 use Rattle.gm_filter.specs.Tree.{Tree, Trees, include, exclude, negated, all, any, compare, between}
 use Rattle.gm_filter.specs.Tree.{like, one_of, is_null, ids, bbox, intersects, disjoint, within}
 use Rattle.gm_filter.specs.Tree.{during, before, after, tequals, no_trees, tree_and, trees_of}
@@ -11,7 +11,7 @@ use Rattle.gm_filter.specs.Tree.{members_of}
 use Rattle.gm_types.specs.FeatureType.{IsType}
 use Rattle.gm_types.specs.Specification.{Specification}
 use Rattle.gm_ecql.specs.declared.keyword.Keyword.TheVariants as keyword
-use Rattle.gm_ecql.specs.Faults.{SpellsFilter}
+use Rattle.gm_ecql.specs.Fault.{SpellsFilter}
 use Rattle.gm_ecql.specs.Grammar.{opening, closing, Factor, lone, not_factor, in_brackets, Factors}
 use Rattle.gm_ecql.specs.Grammar.{no_factors, and_factor, Terms, no_terms, or_term, factor_tokens}
 use Rattle.gm_ecql.specs.Grammar.{factors_tokens, terms_tokens, IsFactor, AreFactors, AreTerms}
@@ -19,8 +19,8 @@ use Rattle.gm_ecql.specs.Grammar.{Members, no_members, add_member, with_member, 
 use Rattle.gm_ecql.specs.Grammar.{negated_of, factor_judged, factors_judged, terms_judged}
 use Rattle.gm_ecql.specs.Grammar.{SpellsJudged}
 use Rattle.gm_ecql.specs.Judging.{Judged, faultless, sound}
-use Rattle.gm_ecql.specs.Printing.{inner, listed, printed, test_text}
-use Rattle.gm_ecql.specs.Tokens.{Seen, a_keyword, IsUnspaced, Spells}
+use Rattle.gm_ecql.specs.Printer.{inner, listed, printed, test_text}
+use Rattle.gm_ecql.specs.Token.{Seen, a_keyword, IsUnspaced, Spells}
 use Rattle.gm_ecql.proofs.Lexemes.{Lexeme, text_of, tokens_of, spaced_of, AreSpelled, Follows}
 use Rattle.gm_ecql.proofs.Lexemes.{FirstIs, Lexed, lexed, numbers_apart, unspaced_tokens}
 use Rattle.gm_ecql.proofs.PrintedTests.{Below, Tested, include_tested, exclude_tested}

@@ -13,10 +13,10 @@ use Rattle.gm_calendar.specs.Spelling.{instant_text}
 use Rattle.gm_types.specs.Words.{is_name, begins_name, continues_name}
 use Rattle.gm_ecql.specs.declared.keyword.Keyword.{Keyword}
 use Rattle.gm_ecql.specs.declared.keyword.Keyword.TheVariants as k
-use Rattle.gm_ecql.specs.Printing.{name_text, name_unless, quoted_text}
-use Rattle.gm_ecql.specs.Tokens.{Seen, a_keyword, a_name, a_text, an_instant, is_word_start}
-use Rattle.gm_ecql.specs.Tokens.{is_word_byte, is_no_double, Stops, Starts, IsPiece, IsWord}
-use Rattle.gm_ecql.specs.Tokens.{doubled}
+use Rattle.gm_ecql.specs.Printer.{name_text, name_unless, quoted_text}
+use Rattle.gm_ecql.specs.Token.{Seen, a_keyword, a_name, a_text, an_instant, is_word_start}
+use Rattle.gm_ecql.specs.Token.{is_word_byte, is_no_double, Stops, Starts, IsPiece, IsWord}
+use Rattle.gm_ecql.specs.Token.{doubled}
 use Rattle.gm_ecql.specs.Words.{keyword_text, keyword_of}
 use Rattle.gm_ecql.proofs.Lexemes.{Ends, ends_word, ends_single, ends_instant}
 use Rattle.gm_ecql.proofs.Scans.{both}

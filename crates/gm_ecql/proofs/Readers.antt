@@ -5,9 +5,9 @@ use Rattle.std.specs.Prelude.{ℤ}
 use Rattle.gm_ecql.specs.declared.keyword.Keyword.{Keyword}
 use Rattle.gm_ecql.specs.declared.token.Symbol.{Symbol}
 use Rattle.gm_ecql.specs.Places.{keyword_place, symbol_place}
-use Rattle.gm_ecql.specs.Reading.{after_keyword, after_symbol, symbol_at, name_at, text_at}
-use Rattle.gm_ecql.specs.Reading.{number_at, instant_at}
-use Rattle.gm_ecql.specs.Tokens.{Seen, a_keyword, a_name, a_text, an_instant, a_number, a_symbol}
+use Rattle.gm_ecql.specs.Reader.{after_keyword, after_symbol, symbol_at, name_at, text_at}
+use Rattle.gm_ecql.specs.Reader.{number_at, instant_at}
+use Rattle.gm_ecql.specs.Token.{Seen, a_keyword, a_name, a_text, an_instant, a_number, a_symbol}
 use Rattle.gm_ecql.proofs.Places.{same_keyword, same_symbol}
 use Rattle.gm_ecql.proofs.Sound.{chosen}
 

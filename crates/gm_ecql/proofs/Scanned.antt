@@ -3,7 +3,7 @@ use Rattle.std.proofs.Common.{◌≡◌, ◌≢◌, ℕ, zero, suc, ◌+◌, ◌
 use Rattle.std.proofs.Common.{◌==◌, cond, List, [], ◌∷◌, length, take, drop, get_or, Option, Some}
 use Rattle.std.proofs.Common.{None, refl, sym, ap, ◌∙◌, subst, arith, eqb, eq-eqb, ne_eqb}
 use Rattle.std.proofs.Common.{drop-cons}
-use Rattle.gm_ecql.specs.Scanning.{text_end, number_end, goes_on, is_e}
+use Rattle.gm_ecql.specs.Scanner.{text_end, number_end, goes_on, is_e}
 
 ahead : (bytes : List ℕ) (i : ℕ) → i < length bytes
     → drop i bytes ≡ get_or bytes i 0 ∷ drop (i + 1) bytes

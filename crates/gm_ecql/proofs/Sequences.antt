@@ -7,9 +7,9 @@ use Rattle.gm_ecql.specs.declared.token.Symbol.{Symbol}
 use Rattle.gm_ecql.specs.declared.token.Symbol.TheVariants as symbol
 use Rattle.gm_ecql.specs.Grammar.{by_commas, comma, opening, closing}
 use Rattle.gm_ecql.specs.Limits.{is_number}
-use Rattle.gm_ecql.specs.Printing.{commas}
-use Rattle.gm_ecql.specs.Tokens.{Seen, a_symbol, IsPiece, SymbolEnds, Stops, is_less_tail}
-use Rattle.gm_ecql.specs.Tokens.{is_more_tail, symbol_text}
+use Rattle.gm_ecql.specs.Printer.{commas}
+use Rattle.gm_ecql.specs.Token.{Seen, a_symbol, IsPiece, SymbolEnds, Stops, is_less_tail}
+use Rattle.gm_ecql.specs.Token.{is_more_tail, symbol_text}
 use Rattle.gm_ecql.proofs.Scans.{both}
 use Rattle.gm_ecql.proofs.Lexemes.{Lexeme, lead, text_of, tokens_of, tight, AreSpelled, is_end}
 use Rattle.gm_ecql.proofs.Lexemes.{Ends, Follows, FirstIs, Lexed, text_joined, tokens_joined, one}

@@ -11,7 +11,7 @@ use Rattle.gm_ecql.specs.Judging.{NameFaults}
 use Rattle.gm_ecql.specs.Limits.{are_within, are_numbers_apart}
 use Rattle.gm_ecql.specs.Outcome.{tokens_of, kept_tokens, if_sound, if_faultless, if_parsed}
 use Rattle.gm_ecql.specs.Outcome.{outcome_by, Answers}
-use Rattle.gm_ecql.specs.Tokens.{Seen, unspaced}
+use Rattle.gm_ecql.specs.Token.{Seen, unspaced}
 use Rattle.gm_ecql.proofs.Answering.{same_err, no_ok, no_err}
 
 -- the answer at an exit with a fault

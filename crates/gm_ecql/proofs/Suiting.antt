@@ -8,7 +8,7 @@ use Rattle.std.specs.Str.{is_utf8}
 use Rattle.std.proofs.lemmas.Bool.{le-leb}
 use Rattle.std.proofs.lemmas.List.Folds.{list_all-append}
 use Rattle.gm_types.specs.Specification.{Specification, place_of_name, kind_at}
-use Rattle.gm_filter.specs.Suits.{Suits, suits, all_suit}
+use Rattle.gm_filter.specs.Suitability.{Suits, suits, all_suit}
 use Rattle.gm_filter.specs.Tree as tree
 use Rattle.gm_filter.specs.Tree.{Tree, Trees, no_trees, tree_and, trees_of, members_of, all, any}
 use Rattle.gm_ecql.specs.Grammar.{Factor, lone, not_factor, in_brackets, Factors, no_factors}
@@ -21,7 +21,7 @@ use Rattle.gm_ecql.specs.Judging.{NameFaults, Judged, faultless, first_faults, f
 use Rattle.gm_ecql.specs.Judging.{judged_at, judged_named, judged, candidate, is_date_kind}
 use Rattle.gm_ecql.specs.Judging.{is_spelled, sound, unknown, bad}
 use Rattle.gm_ecql.specs.Test.{Trial, include, exclude, ids, named, Question}
-use Rattle.gm_ecql.specs.Tokens.{Seen, a_keyword, a_name, a_text, an_instant, a_number, a_symbol}
+use Rattle.gm_ecql.specs.Token.{Seen, a_keyword, a_name, a_text, an_instant, a_number, a_symbol}
 use Rattle.gm_ecql.proofs.Scans.{both}
 use Rattle.gm_ecql.proofs.TestFirst.{some_is, no_some, mapped}
 use Rattle.gm_ecql.proofs.GrammarFound.{with_is}

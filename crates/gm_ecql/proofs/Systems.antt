@@ -2,7 +2,7 @@
 use Rattle.std.proofs.Common.{◌≡◌, ℕ, Bool, true, false, ◌&&◌, ◌==◌, cond, List, [], ◌∷◌, refl, sym}
 use Rattle.std.proofs.Common.{ap, ◌∙◌, subst, eqb-true}
 use Rattle.std.specs.Str.{bytes_eq}
-use Rattle.gm_ecql.specs.Tokens.{undoubled_from}
+use Rattle.gm_ecql.specs.Token.{undoubled_from}
 
 -- no byte is a quote
 abbrev Unquoted : List ℕ → Type 0

@@ -16,12 +16,12 @@ use Rattle.gm_ecql.specs.declared.test.Timing.{Timing}
 use Rattle.gm_ecql.specs.declared.test.Timing.TheVariants as timing
 use Rattle.gm_ecql.specs.Grammar.{opening, closing, comma, literal_token, by_commas, op_symbol}
 use Rattle.gm_ecql.specs.Grammar.{relation_word, timing_word, not_tokens}
-use Rattle.gm_ecql.specs.Reading.{Reader, ◌>>=◌, or_else, after_keyword, after_symbol, symbol_at}
-use Rattle.gm_ecql.specs.Reading.{name_at, text_at, number_at, instant_at, truth_at, constant_at}
-use Rattle.gm_ecql.specs.Reading.{separator_at, member_then, members_at, list_at, op_of, op_at}
-use Rattle.gm_ecql.specs.Reading.{not_at, relation_at, timing_at}
+use Rattle.gm_ecql.specs.Reader.{Reader, ◌>>=◌, or_else, after_keyword, after_symbol, symbol_at}
+use Rattle.gm_ecql.specs.Reader.{name_at, text_at, number_at, instant_at, truth_at, constant_at}
+use Rattle.gm_ecql.specs.Reader.{separator_at, member_then, members_at, list_at, op_of, op_at}
+use Rattle.gm_ecql.specs.Reader.{not_at, relation_at, timing_at}
 use Rattle.gm_ecql.specs.Test.{Written, of_text, of_number, of_instant, of_truth}
-use Rattle.gm_ecql.specs.Tokens.{Seen, a_keyword, a_name, a_text, an_instant, a_number, a_symbol}
+use Rattle.gm_ecql.specs.Token.{Seen, a_keyword, a_name, a_text, an_instant, a_number, a_symbol}
 use Rattle.gm_ecql.proofs.Readers.{keyword_first, symbol_first, name_first, text_first}
 use Rattle.gm_ecql.proofs.Readers.{number_first, instant_first}
 

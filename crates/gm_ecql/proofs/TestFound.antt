@@ -17,13 +17,13 @@ use Rattle.gm_ecql.specs.Grammar.{opening, closing, comma, literal_token, by_com
 use Rattle.gm_ecql.specs.Grammar.{in_brackets_tokens, op_symbol, timing_word, not_tokens}
 use Rattle.gm_ecql.specs.Grammar.{question_tokens, test_tokens, IsGeometryPiece, IsTest}
 use Rattle.gm_ecql.specs.Limits.{depth_behind}
-use Rattle.gm_ecql.specs.Reading.{Reader, ◌>>=◌, constant_at, text_at, separator_at, members_at}
-use Rattle.gm_ecql.specs.Reading.{list_at, member_then, asked_at, lone_test_at, test_at, bbox_at}
-use Rattle.gm_ecql.specs.Reading.{related_at, between_at, during_at}
+use Rattle.gm_ecql.specs.Reader.{Reader, ◌>>=◌, constant_at, text_at, separator_at, members_at}
+use Rattle.gm_ecql.specs.Reader.{list_at, member_then, asked_at, lone_test_at, test_at, bbox_at}
+use Rattle.gm_ecql.specs.Reader.{related_at, between_at, during_at}
 use Rattle.gm_ecql.specs.Test.{Written, of_text, of_number, of_instant, of_truth, Sides, Question}
 use Rattle.gm_ecql.specs.Test.{in_box, related, compared, between, like, one_of, null, during}
 use Rattle.gm_ecql.specs.Test.{timed, Trial, include, exclude, ids, named}
-use Rattle.gm_ecql.specs.Tokens.{Seen, a_keyword, a_name, a_text, an_instant, a_number, a_symbol}
+use Rattle.gm_ecql.specs.Token.{Seen, a_keyword, a_name, a_text, an_instant, a_number, a_symbol}
 use Rattle.gm_ecql.proofs.Sound.{chosen}
 
 pub constant_found : (w : Written) (rest : List Seen)

@@ -14,16 +14,16 @@ use Rattle.gm_ecql.specs.Grammar.{in_brackets_tokens, op_symbol, relation_word, 
 use Rattle.gm_ecql.specs.Grammar.{not_tokens, system_tokens, question_tokens, test_tokens}
 use Rattle.gm_ecql.specs.Grammar.{IsGeometryPiece, IsTest}
 use Rattle.gm_ecql.specs.Limits.{depth_behind}
-use Rattle.gm_ecql.specs.Reading.{Reader, ◌>>=◌, or_else, after_keyword, after_symbol, name_at}
-use Rattle.gm_ecql.specs.Reading.{text_at, number_at, instant_at, constant_at, separator_at}
-use Rattle.gm_ecql.specs.Reading.{number_then_comma, name_then_comma, corners_at, system_behind}
-use Rattle.gm_ecql.specs.Reading.{system_at, bbox_at, relation_at, related_at, list_at, op_at}
-use Rattle.gm_ecql.specs.Reading.{compared_at, not_at, between_at, like_at, null_at, during_at}
-use Rattle.gm_ecql.specs.Reading.{timing_at, timed_at, one_of_at, negatable_at, asked_at}
-use Rattle.gm_ecql.specs.Reading.{lone_test_at, test_at}
+use Rattle.gm_ecql.specs.Reader.{Reader, ◌>>=◌, or_else, after_keyword, after_symbol, name_at}
+use Rattle.gm_ecql.specs.Reader.{text_at, number_at, instant_at, constant_at, separator_at}
+use Rattle.gm_ecql.specs.Reader.{number_then_comma, name_then_comma, corners_at, system_behind}
+use Rattle.gm_ecql.specs.Reader.{system_at, bbox_at, relation_at, related_at, list_at, op_at}
+use Rattle.gm_ecql.specs.Reader.{compared_at, not_at, between_at, like_at, null_at, during_at}
+use Rattle.gm_ecql.specs.Reader.{timing_at, timed_at, one_of_at, negatable_at, asked_at}
+use Rattle.gm_ecql.specs.Reader.{lone_test_at, test_at}
 use Rattle.gm_ecql.specs.Test.{Written, Sides, Question, in_box, related, compared, between, like}
 use Rattle.gm_ecql.specs.Test.{one_of, null, during, timed, Trial, include, exclude, ids, named}
-use Rattle.gm_ecql.specs.Tokens.{Seen, a_keyword, a_name, a_text, an_instant, a_number, a_symbol}
+use Rattle.gm_ecql.specs.Token.{Seen, a_keyword, a_name, a_text, an_instant, a_number, a_symbol}
 use Rattle.gm_ecql.proofs.Readers.{keyword_first, symbol_first, name_first, text_first}
 use Rattle.gm_ecql.proofs.Readers.{number_first, instant_first}
 use Rattle.gm_ecql.proofs.Sound.{chosen}

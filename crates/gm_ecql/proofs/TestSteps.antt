@@ -8,10 +8,10 @@ use Rattle.gm_ecql.specs.declared.halt.Halt.TheVariants as halt
 use Rattle.gm_ecql.specs.declared.keyword.Keyword.TheVariants as keyword
 use Rattle.gm_ecql.specs.Grammar.{test_tokens, question_tokens}
 use Rattle.gm_ecql.specs.Halt.{Gives, Halts}
-use Rattle.gm_ecql.specs.Reading.{after_keyword, name_at, texts_at, asked_at, lone_test_at, test_at}
+use Rattle.gm_ecql.specs.Reader.{after_keyword, name_at, texts_at, asked_at, lone_test_at, test_at}
 use Rattle.gm_ecql.specs.Test.{Question, Trial, named, ids, include, exclude, in_box, related}
 use Rattle.gm_ecql.specs.Test.{compared, between, like, one_of, null, during, timed}
-use Rattle.gm_ecql.specs.Tokens.{Seen}
+use Rattle.gm_ecql.specs.Token.{Seen}
 use Rattle.gm_ecql.proofs.TestSound.{test_there}
 
 tokens_some : (t : Trial) → 1 ≤ length (test_tokens t)

@@ -21,11 +21,11 @@ use Rattle.gm_ecql.specs.declared.token.Symbol.TheVariants as symbol
 use Rattle.gm_ecql.specs.Grammar.{Members, negated_of, grouped}
 use Rattle.gm_ecql.specs.Halt.{Gives, Halts}
 use Rattle.gm_ecql.specs.Judging.{Judged}
-use Rattle.gm_ecql.specs.Parsing.{judged_at, closed, factor_step, filter_with, factor_at, chain}
-use Rattle.gm_ecql.specs.Parsing.{more, members_with}
-use Rattle.gm_ecql.specs.Reading.{Reader, ◌>>=◌, or_else, after_keyword, after_symbol, test_at}
-use Rattle.gm_ecql.specs.Reading.{name_at}
-use Rattle.gm_ecql.specs.Tokens.{Seen, seen, seen_all}
+use Rattle.gm_ecql.specs.Parser.{judged_at, closed, factor_step, filter_with, factor_at, chain}
+use Rattle.gm_ecql.specs.Parser.{more, members_with}
+use Rattle.gm_ecql.specs.Reader.{Reader, ◌>>=◌, or_else, after_keyword, after_symbol, test_at}
+use Rattle.gm_ecql.specs.Reader.{name_at}
+use Rattle.gm_ecql.specs.Token.{Seen, seen, seen_all}
 use Rattle.gm_ecql.proofs.Pending.{Pending, pending_fails}
 
 pub halts_then : {A B : Type 0} (f : A → Option B) (o : Option A) (e : Halt) → Halts o e

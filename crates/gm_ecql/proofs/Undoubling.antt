@@ -8,7 +8,7 @@ use Rattle.std.specs.Str.{all_scalars}
 use Rattle.std.specs.Char.{IsScalar, len_utf8}
 use Rattle.std.proofs.lemmas.Str.{inside_one, length-encode, len_utf8_bounds, encodes-chars}
 use Rattle.std.proofs.lemmas.Str.{encode_ascii}
-use Rattle.gm_ecql.specs.Tokens.{doubled, undoubled, undoubled_from}
+use Rattle.gm_ecql.specs.Token.{doubled, undoubled, undoubled_from}
 use Rattle.gm_ecql.proofs.Scans.{both}
 use Rattle.gm_ecql.proofs.Sound.{undoubled_doubled}
 

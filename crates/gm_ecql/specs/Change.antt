@@ -11,7 +11,7 @@ use Rattle.gm_feature.specs.declared.value.Value.TheVariants as value
 use Rattle.gm_feature.specs.Value.{is_below, value_fits}
 use Rattle.gm_filter.specs.declared.filter.Literal.{Literal}
 use Rattle.gm_filter.specs.declared.filter.Literal.TheVariants as literal
-use Rattle.gm_filter.specs.Suits.{is_text}
+use Rattle.gm_filter.specs.Suitability.{is_text}
 use Rattle.gm_filter.specs.Tree.{Tree, tree}
 use Rattle.gm_ecql.specs.declared.keyword.Keyword.TheVariants as keyword
 use Rattle.gm_ecql.specs.declared.change.Change.{Change}
@@ -23,10 +23,10 @@ use Rattle.gm_ecql.specs.Geometry.{piece_at, geometry_of}
 use Rattle.gm_ecql.specs.Grammar.{SpellsJudged, literal_token, IsGeometryPiece}
 use Rattle.gm_ecql.specs.Judging.{NameFaults, Judged, faultless, first_faults, faults_seen}
 use Rattle.gm_ecql.specs.Judging.{literal_of}
-use Rattle.gm_ecql.specs.Parsing.{document}
-use Rattle.gm_ecql.specs.Reading.{Reader, ◌>>=◌, or_else, after_keyword, constant_at, name_at}
+use Rattle.gm_ecql.specs.Parser.{document}
+use Rattle.gm_ecql.specs.Reader.{Reader, ◌>>=◌, or_else, after_keyword, constant_at, name_at}
 use Rattle.gm_ecql.specs.Test.{Written, constant_seen}
-use Rattle.gm_ecql.specs.Tokens.{Seen, a_keyword, a_name, seen_all}
+use Rattle.gm_ecql.specs.Token.{Seen, a_keyword, a_name, seen_all}
 
 -- a new value as it is written: literal | wkt | NULL
 pub data New : Type 0 where

@@ -9,8 +9,8 @@ use Rattle.gm_wkt.specs.Answer.{answer_of}
 use Rattle.gm_ecql.specs.declared.token.Symbol.{Symbol}
 use Rattle.gm_ecql.specs.declared.token.Symbol.TheVariants as symbol
 use Rattle.gm_ecql.specs.Limits.{depth_behind, is_number}
-use Rattle.gm_ecql.specs.Tokens.{Seen, a_keyword, a_name, a_text, an_instant, a_number, a_symbol}
-use Rattle.gm_ecql.specs.Tokens.{symbol_text}
+use Rattle.gm_ecql.specs.Token.{Seen, a_keyword, a_name, a_text, an_instant, a_number, a_symbol}
+use Rattle.gm_ecql.specs.Token.{symbol_text}
 use Rattle.gm_ecql.specs.Words.{begins_geometry, keyword_text}
 
 abbrev pub is_geometry_word : Seen → Bool

@@ -19,7 +19,7 @@ use Rattle.gm_feature.specs.Value.{is_below}
 use Rattle.gm_filter.specs.declared.filter.Op.{Op}
 use Rattle.gm_filter.specs.declared.filter.Literal.{Literal}
 use Rattle.gm_filter.specs.declared.filter.Literal.TheVariants as literal
-use Rattle.gm_filter.specs.Suits.{suits}
+use Rattle.gm_filter.specs.Suitability.{suits}
 use Rattle.gm_filter.specs.Tree as tree
 use Rattle.gm_filter.specs.Tree.{Tree}
 use Rattle.gm_ecql.specs.declared.judging.Faults.{Faults}
@@ -32,7 +32,7 @@ use Rattle.gm_ecql.specs.Geometry.{geometry_of}
 use Rattle.gm_ecql.specs.Test.{Written, of_text, of_number, of_instant, of_truth, Sides, Question}
 use Rattle.gm_ecql.specs.Test.{in_box, related, compared, between, like, one_of, null, during}
 use Rattle.gm_ecql.specs.Test.{timed, Trial, include, exclude, ids, named}
-use Rattle.gm_ecql.specs.Tokens.{Seen}
+use Rattle.gm_ecql.specs.Token.{Seen}
 
 -- the first name that is no attribute, and the attribute of the first test that breaks a rule
 pub record NameFaults : Type 0 where

@@ -10,7 +10,7 @@ use Rattle.gm_ecql.specs.declared.test.Asked.{Asked}
 use Rattle.gm_ecql.specs.declared.test.Asked.TheVariants as code_asked
 use Rattle.gm_ecql.specs.declared.test.Test.{Test}
 use Rattle.gm_ecql.specs.declared.test.Test.TheVariants as code_test
-use Rattle.gm_ecql.specs.Tokens.{Seen, undoubled, seen_all}
+use Rattle.gm_ecql.specs.Token.{Seen, undoubled, seen_all}
 
 -- a literal
 pub data Written : Type 0 where

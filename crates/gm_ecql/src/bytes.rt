@@ -2,7 +2,7 @@
 ghost use Rattle.std.specs.Prelude.{◌≡◌, ◌≤◌, length};
 ghost use Rattle.std.specs.List.{prefix_len};
 ghost use Rattle.gm_calendar.specs.Spelling as calendar;
-ghost use Rattle.gm_ecql.specs.Tokens as spec;
+ghost use Rattle.gm_ecql.specs.Token as spec;
 
 pub fn is_blank(byte: u8) -> bool
     ensures { result ≡ spec.is_blank byte }

@@ -6,7 +6,7 @@ ghost use Rattle.gm_ecql.specs.Change.{JudgedChange, SpellsChangeJudged, assigne
 ghost use Rattle.gm_ecql.specs.Change.{change_seen, given_seen};
 ghost use Rattle.gm_ecql.specs.Halt.{Gives, Passes};
 ghost use Rattle.gm_ecql.specs.Test.{constant_seen};
-ghost use Rattle.gm_ecql.specs.Tokens.{seen_all};
+ghost use Rattle.gm_ecql.specs.Token.{seen_all};
 
 use crate::geometry::{Piece, geometry_of, piece_at};
 use crate::halt::Halt;

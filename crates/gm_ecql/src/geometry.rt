@@ -2,7 +2,7 @@
 // and what that text spells is the geometry.
 ghost use Rattle.std.specs.Prelude.{◌≡◌, ◌++◌, ◌≤◌, length, option_map, IfOk, IfSome, OnOk};
 ghost use Rattle.std.specs.String.{string_bytes};
-ghost use Rattle.gm_ecql.specs.Tokens.{seen, seen_all};
+ghost use Rattle.gm_ecql.specs.Token.{seen, seen_all};
 ghost use Rattle.gm_ecql.specs.Halt.{Gives};
 ghost use Rattle.gm_ecql.specs.Geometry as spec;
 

@@ -3,7 +3,7 @@
 ghost use Rattle.std.specs.Prelude.{◌≡◌, map, option_map, IfOk};
 ghost use Rattle.gm_types.specs.Specification.{kind_at};
 ghost use Rattle.gm_filter.specs.Tree.{tree};
-ghost use Rattle.gm_ecql.specs.Tokens.{seen_all, undoubled};
+ghost use Rattle.gm_ecql.specs.Token.{seen_all, undoubled};
 ghost use Rattle.gm_ecql.specs.Test.{asked_seen, constant_seen, corners_seen, test_seen};
 ghost use Rattle.gm_ecql.specs.Halt.{Gives, Passes};
 ghost use Rattle.gm_ecql.specs.Judging as spec;

@@ -4,13 +4,13 @@ ghost use Rattle.std.specs.Prelude.{◌≡◌, ℕ, List, Bool, Ok, Err, IsUtf8}
 ghost use Rattle.gm_types.specs.FeatureType.{IsType};
 ghost use Rattle.gm_types.specs.Specification.{Specification};
 ghost use Rattle.gm_feature.specs.declared.value.Value.{Value};
-ghost use Rattle.gm_filter.specs.Suits.{Suits};
+ghost use Rattle.gm_filter.specs.Suitability.{Suits};
 ghost use Rattle.gm_filter.specs.Tree.{Tree};
 ghost use Rattle.gm_ecql.specs.declared.fault.FilterFault.{FilterFault};
-ghost use Rattle.gm_ecql.specs.Faults.{IsFault, IsFilterOf, IsChangeOf, SpellsFilter, SpellsChange};
+ghost use Rattle.gm_ecql.specs.Fault.{IsFault, IsFilterOf, IsChangeOf, SpellsFilter, SpellsChange};
 ghost use Rattle.gm_ecql.specs.Outcome.{KeepsLimits, Meant, filter_outcome, change_outcome};
-ghost use Rattle.gm_ecql.specs.Printing.{printed};
-ghost use Rattle.gm_ecql.specs.Tokens.{Seen, SpellsTokens};
+ghost use Rattle.gm_ecql.specs.Printer.{printed};
+ghost use Rattle.gm_ecql.specs.Token.{Seen, SpellsTokens};
 
 use gm_calendar::{instants_are_tested, printed_instants_are_read};
 use gm_geom::reads_back;

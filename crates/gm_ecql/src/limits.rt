@@ -1,6 +1,6 @@
 // What a list of tokens may have at most.
 ghost use Rattle.std.specs.Prelude.{◌≡◌, ◌≤◌, ◌<◌, ◌^◌, length, map};
-ghost use Rattle.gm_ecql.specs.Tokens.{seen, seen_spaced, seen_all};
+ghost use Rattle.gm_ecql.specs.Token.{seen, seen_spaced, seen_all};
 ghost use Rattle.gm_ecql.specs.Limits as spec;
 
 use crate::keyword::Keyword;

@@ -3,8 +3,8 @@ ghost use Rattle.std.specs.Prelude.{◌≡◌, option_map, ◌≤◌, length, ta
 ghost use Rattle.std.specs.List.{list_all};
 ghost use Rattle.std.specs.Char as char;
 ghost use Rattle.gm_calendar.specs.Spelling as calendar;
-ghost use Rattle.gm_ecql.specs.Tokens.{seen};
-ghost use Rattle.gm_ecql.specs.Scanning as spec;
+ghost use Rattle.gm_ecql.specs.Token.{seen};
+ghost use Rattle.gm_ecql.specs.Scanner as spec;
 
 use crate::bytes::{instant_count, is_number_tail, is_sign};
 use crate::token::Token;

@@ -2,12 +2,12 @@
 // another.
 ghost use Rattle.std.specs.Prelude.{◌≡◌, ℕ, ◌≤◌, ◌<◌, length, IfErr, IfOk, Some, map};
 ghost use Rattle.gm_filter.specs.Tree.{tree, all, any};
-ghost use Rattle.gm_ecql.specs.Tokens.{seen_all};
+ghost use Rattle.gm_ecql.specs.Token.{seen_all};
 ghost use Rattle.gm_ecql.specs.Grammar.{group, negated_of, SpellsJudged};
 ghost use Rattle.gm_ecql.specs.Halt.{Gives};
 ghost use Rattle.gm_ecql.specs.Judging.{Judged, found_seen};
-ghost use Rattle.gm_ecql.specs.Parsing as parsing;
-ghost use Rattle.gm_ecql.specs.Parsing.{factor_at, term_with, filter_with, document};
+ghost use Rattle.gm_ecql.specs.Parser as parsing;
+ghost use Rattle.gm_ecql.specs.Parser.{factor_at, term_with, filter_with, document};
 
 use crate::halt::Halt;
 use crate::judging::{Found, first_faults, judge};

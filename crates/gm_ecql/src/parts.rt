@@ -1,8 +1,8 @@
 // What may stand at the front of tokens, and what follows it.
 ghost use Rattle.std.specs.Prelude.{◌≡◌, ◌∷◌, [], ◌<◌, length, IfSome, MatchOption, option_map};
-ghost use Rattle.gm_ecql.specs.Tokens.{seen, seen_all, undoubled};
+ghost use Rattle.gm_ecql.specs.Token.{seen, seen_all, undoubled};
 ghost use Rattle.gm_ecql.specs.Test.{constant_seen};
-ghost use Rattle.gm_ecql.specs.Reading as spec;
+ghost use Rattle.gm_ecql.specs.Reader as spec;
 
 use crate::keyword::Keyword;
 use crate::test::Constant;

@@ -7,8 +7,8 @@ ghost use Rattle.gm_calendar.specs.Spelling.{instant_text};
 ghost use Rattle.gm_filter.specs.Tree.{tree, trees_of};
 ghost use Rattle.gm_filter.specs.Tree.{compare, between, like, one_of, is_null};
 ghost use Rattle.gm_types.specs.Specification.{names_of};
-ghost use Rattle.gm_ecql.specs.Printing as spec;
-ghost use Rattle.gm_ecql.specs.Tokens.{doubled};
+ghost use Rattle.gm_ecql.specs.Printer as spec;
+ghost use Rattle.gm_ecql.specs.Token.{doubled};
 
 use crate::keyword::keyword_of;
 use gm_base::{NoMemory, Text};

@@ -1,7 +1,7 @@
 // Texts and names in quotes.
 ghost use Rattle.std.specs.Prelude.{◌≡◌, option_map, ◌<◌, length, false, IfSome};
-ghost use Rattle.gm_ecql.specs.Tokens.{seen};
-ghost use Rattle.gm_ecql.specs.Scanning as spec;
+ghost use Rattle.gm_ecql.specs.Token.{seen};
+ghost use Rattle.gm_ecql.specs.Scanner as spec;
 
 use crate::bytes::name_count;
 use crate::token::Token;

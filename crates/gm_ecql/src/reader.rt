@@ -1,12 +1,12 @@
 // Texts to filters and to changes, with their faults in order.
 ghost use Rattle.std.specs.Prelude.{map, option_map, IfOk, Err};
 ghost use Rattle.gm_filter.specs.Tree.{tree};
-ghost use Rattle.gm_filter.specs.Suits.{Suits};
+ghost use Rattle.gm_filter.specs.Suitability.{Suits};
 ghost use Rattle.gm_ecql.specs.declared.fault.FilterFault.TheVariants as spec_fault;
-ghost use Rattle.gm_ecql.specs.Faults.{IsAnswer, IsChangeAnswer};
+ghost use Rattle.gm_ecql.specs.Fault.{IsAnswer, IsChangeAnswer};
 ghost use Rattle.gm_ecql.specs.Outcome as spec;
 ghost use Rattle.gm_ecql.specs.Outcome.{Answers, MayHold, filter_outcome, change_outcome, meant};
-ghost use Rattle.gm_ecql.specs.Tokens.{seen_spaced};
+ghost use Rattle.gm_ecql.specs.Token.{seen_spaced};
 
 use crate::change::parse_change;
 use crate::judging::{Faults, Found};

@@ -1,8 +1,8 @@
 // Text to tokens.
 ghost use Rattle.std.specs.Prelude.{◌≡◌, List, Bool, ◌∷◌, [], IfOk, IfErr};
 ghost use Rattle.std.specs.Prelude.{map, option_map, MatchOption};
-ghost use Rattle.gm_ecql.specs.Tokens.{Seen, Spells, SpellsTokens, seen, seen_spaced};
-ghost use Rattle.gm_ecql.specs.Scanning as spec;
+ghost use Rattle.gm_ecql.specs.Token.{Seen, Spells, SpellsTokens, seen, seen_spaced};
+ghost use Rattle.gm_ecql.specs.Scanner as spec;
 ghost use Rattle.gm_ecql.specs.Halt.{Gives};
 ghost use Rattle.gm_ecql.specs.Outcome.{tokens_of};
 
@@ -55,7 +55,7 @@ fn tokens_from<'a>(alloc: Global, text: &'a [u8]) -> Result<Vec<Spaced<'a>>, Hal
 }
 
 // The token at the front, and what follows it.
-#[tactic(auto, unfolding(crate::specs::Scanning::token_at))]
+#[tactic(auto, unfolding(crate::specs::Scanner::token_at))]
 fn token_at(bytes: &[u8]) -> Option<(Token<'_>, &[u8])>
     ensures { option_map (λ x. (seen x.0, x.1.now)) result ≡ spec.token_at bytes.now }
 {

@@ -1,8 +1,8 @@
 // Symbols.
 ghost use Rattle.std.specs.Prelude.{◌≡◌, option_map};
-ghost use Rattle.gm_ecql.specs.Tokens.{seen};
-ghost use Rattle.gm_ecql.specs.Scanning as spec;
-ghost use Rattle.gm_ecql.specs.Tokens as tokens;
+ghost use Rattle.gm_ecql.specs.Token.{seen};
+ghost use Rattle.gm_ecql.specs.Scanner as spec;
+ghost use Rattle.gm_ecql.specs.Token as tokens;
 
 use crate::token::{Symbol, Token};
 

@@ -1,7 +1,7 @@
 // Texts without the quotes that were written twice.
 ghost use Rattle.std.specs.Prelude.{◌≡◌, ◌++◌, ◌∷◌, ℕ, List, IfOk, encode_utf8_all};
 ghost use Rattle.std.specs.String.{string_bytes};
-ghost use Rattle.gm_ecql.specs.Tokens.{undoubled, undoubled_from};
+ghost use Rattle.gm_ecql.specs.Token.{undoubled, undoubled_from};
 
 use gm_base::{NoMemory, Text};
 use std::alloc::Global;

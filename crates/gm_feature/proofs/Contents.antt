@@ -15,9 +15,9 @@ use Rattle.gm_types.specs.declared.kind.Kind.TheVariants as kind
 use Rattle.gm_feature.specs.declared.value.Value.{Value}
 use Rattle.gm_feature.specs.declared.value.Value.TheVariants as value
 use Rattle.gm_feature.specs.Feature.{values_fit}
-use Rattle.gm_feature.specs.Reading.{◌>>=◌, only_if, string_from, signed_from, text_from}
-use Rattle.gm_feature.specs.Reading.{truth_from, instant_from, geometry_from, content_from}
-use Rattle.gm_feature.specs.Reading.{value_from, values_from}
+use Rattle.gm_feature.specs.Reader.{◌>>=◌, only_if, string_from, signed_from, text_from}
+use Rattle.gm_feature.specs.Reader.{truth_from, instant_from, geometry_from, content_from}
+use Rattle.gm_feature.specs.Reader.{value_from, values_from}
 use Rattle.gm_feature.specs.Spelling.{signed_bytes, string_bytes, truth_byte, presence_byte}
 use Rattle.gm_feature.specs.Spelling.{content_bytes, value_bytes, values_bytes}
 use Rattle.gm_feature.specs.Value.{is_below, is_no_zero, has_text_form, value_fits}

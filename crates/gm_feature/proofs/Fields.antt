@@ -17,8 +17,8 @@ use Rattle.std.proofs.Math.Facts.{Fits-of_z}
 use borrow.Author.Gap.{read_sfits}
 use mir.Val.{bits}
 use Rattle.gm_feature.specs.Spelling.{signed_bytes, string_bytes, list_bytes}
-use Rattle.gm_feature.specs.Reading.{◌>>=◌, only_if, made, number_from, signed_from, string_from}
-use Rattle.gm_feature.specs.Reading.{count_from, members_from, list_from}
+use Rattle.gm_feature.specs.Reader.{◌>>=◌, only_if, made, number_from, signed_from, string_from}
+use Rattle.gm_feature.specs.Reader.{count_from, members_from, list_from}
 
 abbrev pub IsBytes : List ℕ → Type 0
 IsBytes bytes = (i : ℕ) → get_or bytes i 0 < 256

@@ -19,11 +19,11 @@ use Rattle.gm_types.specs.declared.kind.GeoKind.{GeoKind}
 use Rattle.gm_types.specs.declared.kind.Kind.{Kind}
 use Rattle.gm_feature.specs.declared.value.Value.{Value}
 use Rattle.gm_feature.specs.declared.value.Value.TheVariants as value
-use Rattle.gm_feature.specs.Reading.{◌>>=◌, only_if, made, number_from, signed_from, string_from}
-use Rattle.gm_feature.specs.Reading.{count_from, members_from, point_from, points_from, lines_from}
-use Rattle.gm_feature.specs.Reading.{areas_from, body_from, geometry_from, text_from, truth_from}
-use Rattle.gm_feature.specs.Reading.{instant_from, content_from, value_from, values_from}
-use Rattle.gm_feature.specs.Reading.{identifier_from}
+use Rattle.gm_feature.specs.Reader.{◌>>=◌, only_if, made, number_from, signed_from, string_from}
+use Rattle.gm_feature.specs.Reader.{count_from, members_from, point_from, points_from, lines_from}
+use Rattle.gm_feature.specs.Reader.{areas_from, body_from, geometry_from, text_from, truth_from}
+use Rattle.gm_feature.specs.Reader.{instant_from, content_from, value_from, values_from}
+use Rattle.gm_feature.specs.Reader.{identifier_from}
 use Rattle.gm_feature.specs.Shape.{has_shape}
 use Rattle.gm_feature.specs.Value.{has_text_form}
 use Rattle.gm_feature.proofs.Fields.{bind_some, guard_some, only_some, made_some, some_is}

@@ -7,7 +7,7 @@ use Rattle.gm_types.specs.declared.attribute.Attribute.{Attribute}
 use Rattle.gm_feature.specs.declared.halt.Halt.{Halt}
 use Rattle.gm_feature.specs.declared.halt.Halt.TheVariants.{Refused, NoMemory}
 use Rattle.gm_feature.specs.declared.value.Value.{Value}
-use Rattle.gm_feature.specs.Reading.{◌>>=◌, Stops, members_from, value_from, values_from}
+use Rattle.gm_feature.specs.Reader.{◌>>=◌, Stops, members_from, value_from, values_from}
 use Rattle.gm_feature.proofs.Fitting.{kinds}
 
 -- what was read before, and what is still read

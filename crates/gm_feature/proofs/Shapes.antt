@@ -14,8 +14,8 @@ use Rattle.gm_geom.specs.declared.point.Point.{Point}
 use Rattle.gm_geom.specs.Geometry.{joined}
 use Rattle.gm_geom.specs.Validity.{fault_of, is_within, is_in_world}
 use Rattle.gm_types.specs.declared.kind.GeoKind.{GeoKind}
-use Rattle.gm_feature.specs.Reading.{◌>>=◌, only_if, made, signed_from, point_from, points_from}
-use Rattle.gm_feature.specs.Reading.{lines_from, areas_from, body_from, geometry_from}
+use Rattle.gm_feature.specs.Reader.{◌>>=◌, only_if, made, signed_from, point_from, points_from}
+use Rattle.gm_feature.specs.Reader.{lines_from, areas_from, body_from, geometry_from}
 use Rattle.gm_feature.specs.Shape.{has_shape}
 use Rattle.gm_feature.specs.Spelling.{signed_bytes, list_bytes, point_bytes, points_bytes}
 use Rattle.gm_feature.specs.Spelling.{lines_bytes, areas_bytes, shape_byte, body_bytes}

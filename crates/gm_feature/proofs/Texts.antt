@@ -3,7 +3,7 @@ use Rattle.std.proofs.Common.{◌≡◌, ℕ, Bool, true, false, ◌&&◌, List,
 use Rattle.std.specs.Int.{w32}
 use Rattle.std.specs.Str.{IsUtf8, is_utf8}
 use Rattle.std.proofs.lemmas.Str.{IsUtf8-from_is_utf8, is_utf8-from_IsUtf8}
-use Rattle.gm_feature.specs.Reading.{only_if, string_from, text_from}
+use Rattle.gm_feature.specs.Reader.{only_if, string_from, text_from}
 use Rattle.gm_feature.specs.Value.{has_text_form}
 
 decided : (bytes text rest : List ℕ) (b : Bool) → string_from w32 bytes ≡ Some (text, rest)

@@ -11,8 +11,8 @@ use Rattle.gm_base.specs.Identifier.{is_identifier, has_identifier_form, is_prin
 use Rattle.gm_types.specs.Specification.{Specification, kinds_of}
 use Rattle.gm_feature.specs.declared.feature.Feature.{Feature}
 use Rattle.gm_feature.specs.Feature.{Fits, dates_fit}
-use Rattle.gm_feature.specs.Reading.{◌>>=◌, only_if, string_from, identifier_from, values_from}
-use Rattle.gm_feature.specs.Reading.{feature_from}
+use Rattle.gm_feature.specs.Reader.{◌>>=◌, only_if, string_from, identifier_from, values_from}
+use Rattle.gm_feature.specs.Reader.{feature_from}
 use Rattle.gm_feature.specs.Spelling.{string_bytes, values_bytes, feature_bytes}
 use Rattle.gm_feature.proofs.Contents.{values_take, values_again}
 use Rattle.gm_feature.proofs.Fields.{IsBytes, bind_some, only_some, Takes, Takes-then, wide16}

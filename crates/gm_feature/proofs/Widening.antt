@@ -8,7 +8,7 @@ use Rattle.gm_geom.specs.declared.point.Box2.{Box2}
 use Rattle.gm_geom.specs.declared.point.Point.{Point}
 use Rattle.gm_geom.specs.Extent.{widened, extent_of}
 use Rattle.gm_geom.specs.Geometry.{joined, points_of}
-use Rattle.gm_feature.specs.Reading.{◌>>=◌, made, members_from, body_from}
+use Rattle.gm_feature.specs.Reader.{◌>>=◌, made, members_from, body_from}
 use Rattle.gm_feature.proofs.Fields.{bind_some, made_some, some_is}
 use Rattle.gm_feature.proofs.Shapes.{joined-append}
 

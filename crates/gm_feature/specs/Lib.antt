@@ -2,5 +2,5 @@ pub mod Shape
 pub mod Value
 pub mod Feature
 pub mod Spelling
-pub mod Reading
+pub mod Reader
 pub mod Stored

@@ -3,8 +3,8 @@
 ghost use Rattle.std.specs.Prelude.{◌≡◌};
 ghost use Rattle.std.specs.Int.{w16, w32, w64};
 ghost use Rattle.std.specs.Option.{ForSome};
-ghost use Rattle.gm_feature.specs.Reading.{number_from, signed_from, string_from};
-ghost use Rattle.gm_feature.specs.Reading.{count_from, point_from};
+ghost use Rattle.gm_feature.specs.Reader.{number_from, signed_from, string_from};
+ghost use Rattle.gm_feature.specs.Reader.{count_from, point_from};
 
 use gm_geom::Point;
 
@@ -29,7 +29,7 @@ fn number_at(bytes: &[u8]) -> (u32, &[u8])
     (number, rest)
 }
 
-#[tactic(auto, unfolding(crate::specs::Reading::signed_from))]
+#[tactic(auto, unfolding(crate::specs::Reader::signed_from))]
 pub fn integer_at(bytes: &[u8]) -> (i32, &[u8])
     ensures { ForSome (signed_from w32 bytes.now) (λ x. (result.0 ≡ x.0) × (result.1.now ≡ x.1)) }
 {
@@ -41,7 +41,7 @@ pub fn integer_at(bytes: &[u8]) -> (i32, &[u8])
     (number, rest)
 }
 
-#[tactic(auto, unfolding(crate::specs::Reading::signed_from))]
+#[tactic(auto, unfolding(crate::specs::Reader::signed_from))]
 pub fn long_at(bytes: &[u8]) -> i64
     ensures { ForSome (signed_from w64 bytes.now) (λ x. result ≡ x.0) }
 {
@@ -55,7 +55,7 @@ pub fn long_at(bytes: &[u8]) -> i64
 }
 
 /// The bytes behind two bytes of length.
-#[tactic(auto, unfolding(crate::specs::Reading::string_from))]
+#[tactic(auto, unfolding(crate::specs::Reader::string_from))]
 pub fn short_string_at(bytes: &[u8]) -> (&[u8], &[u8])
     ensures { ForSome (string_from w16 bytes.now)
         (λ x. (result.0.now ≡ x.0) × (result.1.now ≡ x.1)) }
@@ -69,7 +69,7 @@ pub fn short_string_at(bytes: &[u8]) -> (&[u8], &[u8])
 }
 
 /// The bytes behind four bytes of length.
-#[tactic(auto, unfolding(crate::specs::Reading::string_from))]
+#[tactic(auto, unfolding(crate::specs::Reader::string_from))]
 pub fn string_at(bytes: &[u8]) -> (&[u8], &[u8])
     ensures { ForSome (string_from w32 bytes.now)
         (λ x. (result.0.now ≡ x.0) × (result.1.now ≡ x.1)) }
@@ -83,7 +83,7 @@ pub fn string_at(bytes: &[u8]) -> (&[u8], &[u8])
 }
 
 /// A count of members that have at least so many bytes each, and 0 where there are fewer bytes.
-#[tactic(auto, unfolding(crate::specs::Reading::count_from))]
+#[tactic(auto, unfolding(crate::specs::Reader::count_from))]
 pub fn count_at(least: u8, bytes: &[u8]) -> (u32, &[u8])
     ensures { ForSome (count_from least bytes.now)
         (λ x. (result.0 ≡ x.0) × (result.1.now ≡ x.1)) }
@@ -95,7 +95,7 @@ pub fn count_at(least: u8, bytes: &[u8]) -> (u32, &[u8])
     (count, rest)
 }
 
-#[tactic(auto, unfolding(crate::specs::Reading::point_from))]
+#[tactic(auto, unfolding(crate::specs::Reader::point_from))]
 pub fn point_at(bytes: &[u8]) -> (Point, &[u8])
     ensures { ForSome (point_from bytes.now) (λ x. (result.0 ≡ x.0) × (result.1.now ≡ x.1)) }
 {

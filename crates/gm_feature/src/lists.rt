@@ -1,6 +1,6 @@
 // Bytes to geometries.
-ghost use Rattle.gm_feature.specs.Reading.{Gives, geometry_from, body_from, members_from};
-ghost use Rattle.gm_feature.specs.Reading.{point_from, points_from, lines_from, areas_from};
+ghost use Rattle.gm_feature.specs.Reader.{Gives, geometry_from, body_from, members_from};
+ghost use Rattle.gm_feature.specs.Reader.{point_from, points_from, lines_from, areas_from};
 
 use crate::halt::Halt;
 use crate::number::{count_of, i32_of};
@@ -16,7 +16,7 @@ pub const POINT_BYTES: u8 = 8;
 pub const LIST_BYTES: u8 = 4;
 
 /// A geometry that is kept, and that an attribute of the kind may hold.
-#[tactic(auto, unfolding(crate::specs::Reading::geometry_from))]
+#[tactic(auto, unfolding(crate::specs::Reader::geometry_from))]
 pub fn geometry_of(alloc: Global, shape: GeoKind, bytes: &[u8]) -> Result<(Geometry, &[u8]), Halt>
     ensures { Gives (λ x. (x.0, x.1.now)) result (geometry_from shape bytes.now) }
 {
@@ -33,7 +33,7 @@ pub fn geometry_of(alloc: Global, shape: GeoKind, bytes: &[u8]) -> Result<(Geome
     }
 }
 
-#[tactic(auto, unfolding(crate::specs::Reading::body_from))]
+#[tactic(auto, unfolding(crate::specs::Reader::body_from))]
 fn body_of(alloc: Global, tag: u8, bytes: &[u8]) -> Result<(Geometry, &[u8]), Halt>
     ensures { Gives (λ x. (x.0, x.1.now)) result (body_from tag bytes.now) }
 {
@@ -66,7 +66,7 @@ fn body_of(alloc: Global, tag: u8, bytes: &[u8]) -> Result<(Geometry, &[u8]), Ha
     }
 }
 
-#[tactic(auto, unfolding(crate::specs::Reading::point_from))]
+#[tactic(auto, unfolding(crate::specs::Reader::point_from))]
 fn point_of(bytes: &[u8]) -> Result<(Point, &[u8]), Halt>
     ensures { Gives (λ x. (x.0, x.1.now)) result (point_from bytes.now) }
 {
@@ -75,7 +75,7 @@ fn point_of(bytes: &[u8]) -> Result<(Point, &[u8]), Halt>
     Ok((Point { x, y }, rest))
 }
 
-#[tactic(auto, unfolding(crate::specs::Reading::points_from))]
+#[tactic(auto, unfolding(crate::specs::Reader::points_from))]
 fn points_of(alloc: Global, bytes: &[u8]) -> Result<(Points, &[u8]), Halt>
     ensures { Gives (λ x. (x.0, x.1.now)) result (points_from bytes.now) }
 {
@@ -96,7 +96,7 @@ fn many_points(alloc: Global, count: u32, bytes: &[u8]) -> Result<(Points, &[u8]
     Ok((Items::from_vec(points), rest))
 }
 
-#[tactic(auto, unfolding(crate::specs::Reading::lines_from))]
+#[tactic(auto, unfolding(crate::specs::Reader::lines_from))]
 fn lines_of(alloc: Global, bytes: &[u8]) -> Result<(Lines, &[u8]), Halt>
     ensures { Gives (λ x. (x.0, x.1.now)) result (lines_from bytes.now) }
 {
@@ -117,7 +117,7 @@ fn many_lines(alloc: Global, count: u32, bytes: &[u8]) -> Result<(Lines, &[u8]),
     Ok((Items::from_vec(lines), rest))
 }
 
-#[tactic(auto, unfolding(crate::specs::Reading::areas_from))]
+#[tactic(auto, unfolding(crate::specs::Reader::areas_from))]
 fn areas_of(alloc: Global, bytes: &[u8]) -> Result<(Areas, &[u8]), Halt>
     ensures { Gives (λ x. (x.0, x.1.now)) result (areas_from bytes.now) }
 {

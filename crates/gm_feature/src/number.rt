@@ -1,7 +1,7 @@
 // Numbers, counts and strings of bytes.
 ghost use Rattle.std.specs.Int.{w16, w32, w64};
-ghost use Rattle.gm_feature.specs.Reading.{Gives, number_from, signed_from};
-ghost use Rattle.gm_feature.specs.Reading.{string_from, count_from};
+ghost use Rattle.gm_feature.specs.Reader.{Gives, number_from, signed_from};
+ghost use Rattle.gm_feature.specs.Reader.{string_from, count_from};
 
 use crate::halt::Halt;
 
@@ -26,7 +26,7 @@ pub fn u32_of(bytes: &[u8]) -> Result<(u32, &[u8]), Halt>
     Ok((number, rest))
 }
 
-#[tactic(auto, unfolding(crate::specs::Reading::signed_from))]
+#[tactic(auto, unfolding(crate::specs::Reader::signed_from))]
 pub fn i32_of(bytes: &[u8]) -> Result<(i32, &[u8]), Halt>
     ensures { Gives (λ x. (x.0, x.1.now)) result (signed_from w32 bytes.now) }
 {
@@ -38,7 +38,7 @@ pub fn i32_of(bytes: &[u8]) -> Result<(i32, &[u8]), Halt>
     Ok((number, rest))
 }
 
-#[tactic(auto, unfolding(crate::specs::Reading::signed_from))]
+#[tactic(auto, unfolding(crate::specs::Reader::signed_from))]
 pub fn i64_of(bytes: &[u8]) -> Result<(i64, &[u8]), Halt>
     ensures { Gives (λ x. (x.0, x.1.now)) result (signed_from w64 bytes.now) }
 {
@@ -53,7 +53,7 @@ pub fn i64_of(bytes: &[u8]) -> Result<(i64, &[u8]), Halt>
 }
 
 /// The bytes behind two bytes of length.
-#[tactic(auto, unfolding(crate::specs::Reading::string_from))]
+#[tactic(auto, unfolding(crate::specs::Reader::string_from))]
 pub fn short_string_of(bytes: &[u8]) -> Result<(&[u8], &[u8]), Halt>
     ensures { Gives (λ x. (x.0.now, x.1.now)) result (string_from w16 bytes.now) }
 {
@@ -66,7 +66,7 @@ pub fn short_string_of(bytes: &[u8]) -> Result<(&[u8], &[u8]), Halt>
 }
 
 /// The bytes behind four bytes of length.
-#[tactic(auto, unfolding(crate::specs::Reading::string_from))]
+#[tactic(auto, unfolding(crate::specs::Reader::string_from))]
 pub fn string_of(bytes: &[u8]) -> Result<(&[u8], &[u8]), Halt>
     ensures { Gives (λ x. (x.0.now, x.1.now)) result (string_from w32 bytes.now) }
 {
@@ -79,7 +79,7 @@ pub fn string_of(bytes: &[u8]) -> Result<(&[u8], &[u8]), Halt>
 }
 
 /// A count of members that have at least so many bytes each, where there are that many bytes.
-#[tactic(auto, unfolding(crate::specs::Reading::count_from))]
+#[tactic(auto, unfolding(crate::specs::Reader::count_from))]
 pub fn count_of(least: u8, bytes: &[u8]) -> Result<(u32, &[u8]), Halt>
     ensures { Gives (λ x. (x.0, x.1.now)) result (count_from least bytes.now) }
 {

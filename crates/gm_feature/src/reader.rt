@@ -2,9 +2,9 @@
 ghost use Rattle.std.specs.Prelude.{◌≡◌, Some, None, IfOk, IfSome, IfNone, map};
 ghost use Rattle.gm_feature.specs.declared.feature.Feature.{Feature};
 ghost use Rattle.gm_feature.specs.Feature.{Fits};
-ghost use Rattle.gm_feature.specs.Reading.{Gives, feature_from, identifier_from, values_from};
-ghost use Rattle.gm_feature.specs.Reading.{value_from, content_from, text_from, truth_from};
-ghost use Rattle.gm_feature.specs.Reading.{instant_from};
+ghost use Rattle.gm_feature.specs.Reader.{Gives, feature_from, identifier_from, values_from};
+ghost use Rattle.gm_feature.specs.Reader.{value_from, content_from, text_from, truth_from};
+ghost use Rattle.gm_feature.specs.Reader.{instant_from};
 ghost use Rattle.gm_feature.specs.Spelling.{feature_bytes};
 
 use crate::fit::{dates_fit, has_text_form};
@@ -41,7 +41,7 @@ pub fn from_bytes(
     }
 }
 
-#[tactic(auto, unfolding(crate::specs::Reading::feature_from))]
+#[tactic(auto, unfolding(crate::specs::Reader::feature_from))]
 fn feature_of(alloc: Global, of: &FeatureType, bytes: &[u8]) -> Result<Feature, Halt>
     ensures { Gives (λ f. f) result (feature_from of.now bytes.now) }
 {
@@ -54,7 +54,7 @@ fn feature_of(alloc: Global, of: &FeatureType, bytes: &[u8]) -> Result<Feature, 
     Err(Halt::Refused)
 }
 
-#[tactic(auto, unfolding(crate::specs::Reading::identifier_from))]
+#[tactic(auto, unfolding(crate::specs::Reader::identifier_from))]
 fn identifier_of(alloc: Global, bytes: &[u8]) -> Result<(FeatureId, &[u8]), Halt>
     ensures { Gives (λ x. (x.0, x.1.now)) result (identifier_from bytes.now) }
 {
@@ -84,7 +84,7 @@ fn values_of<'a>(
     Ok((Items::from_vec(values), rest))
 }
 
-#[tactic(auto, unfolding(crate::specs::Reading::value_from))]
+#[tactic(auto, unfolding(crate::specs::Reader::value_from))]
 fn value_of(alloc: Global, kind: Kind, bytes: &[u8]) -> Result<(Value, &[u8]), Halt>
     ensures { Gives (λ x. (x.0, x.1.now)) result (value_from kind bytes.now) }
 {
@@ -127,7 +127,7 @@ fn content_of(alloc: Global, kind: Kind, bytes: &[u8]) -> Result<(Value, &[u8]),
     }
 }
 
-#[tactic(auto, unfolding(crate::specs::Reading::text_from))]
+#[tactic(auto, unfolding(crate::specs::Reader::text_from))]
 fn text_of(alloc: Global, bytes: &[u8]) -> Result<(Text, &[u8]), Halt>
     ensures { Gives (λ x. (x.0, x.1.now)) result (text_from bytes.now) }
 {
@@ -144,7 +144,7 @@ fn text_of(alloc: Global, bytes: &[u8]) -> Result<(Text, &[u8]), Halt>
     }
 }
 
-#[tactic(auto, unfolding(crate::specs::Reading::truth_from))]
+#[tactic(auto, unfolding(crate::specs::Reader::truth_from))]
 fn truth_of(bytes: &[u8]) -> Result<(bool, &[u8]), Halt>
     ensures { Gives (λ x. (x.0, x.1.now)) result (truth_from bytes.now) }
 {
@@ -156,7 +156,7 @@ fn truth_of(bytes: &[u8]) -> Result<(bool, &[u8]), Halt>
     }
 }
 
-#[tactic(auto, unfolding(crate::specs::Reading::instant_from))]
+#[tactic(auto, unfolding(crate::specs::Reader::instant_from))]
 fn instant_of(bytes: &[u8]) -> Result<(Instant, &[u8]), Halt>
     ensures { Gives (λ x. (x.0, x.1.now)) result (instant_from bytes.now) }
 {

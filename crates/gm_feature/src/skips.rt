@@ -2,9 +2,9 @@
 ghost use Rattle.std.specs.Prelude.{◌≡◌, ◌≤◌, length, drop, map};
 ghost use Rattle.std.specs.Option.{ForSome};
 ghost use Rattle.gm_types.specs.declared.kind.GeoKind.{GeoKind as AnyKind};
-ghost use Rattle.gm_feature.specs.Reading.{members_from, points_from, lines_from, areas_from};
-ghost use Rattle.gm_feature.specs.Reading.{body_from, geometry_from, text_from, content_from};
-ghost use Rattle.gm_feature.specs.Reading.{value_from, values_from};
+ghost use Rattle.gm_feature.specs.Reader.{members_from, points_from, lines_from, areas_from};
+ghost use Rattle.gm_feature.specs.Reader.{body_from, geometry_from, text_from, content_from};
+ghost use Rattle.gm_feature.specs.Reader.{value_from, values_from};
 
 use crate::fronts::{count_at, string_at};
 use crate::lists::{LIST_BYTES, POINT_BYTES};

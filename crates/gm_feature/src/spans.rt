@@ -3,8 +3,8 @@ ghost use Rattle.std.specs.Prelude.{◌≡◌, fold};
 ghost use Rattle.std.specs.Option.{ForSome};
 ghost use Rattle.gm_geom.specs.Extent.{widened, extent_of};
 ghost use Rattle.gm_geom.specs.Geometry.{joined, points_of};
-ghost use Rattle.gm_feature.specs.Reading.{members_from, point_from, points_from};
-ghost use Rattle.gm_feature.specs.Reading.{lines_from, areas_from, body_from};
+ghost use Rattle.gm_feature.specs.Reader.{members_from, point_from, points_from};
+ghost use Rattle.gm_feature.specs.Reader.{lines_from, areas_from, body_from};
 
 use crate::fronts::{count_at, point_at};
 use crate::lists::{LIST_BYTES, POINT_BYTES};

@@ -10,8 +10,8 @@ ghost use Rattle.gm_types.specs.declared.kind.GeoKind.{GeoKind as AnyKind};
 ghost use Rattle.gm_feature.specs.declared.feature.Feature.{Feature};
 ghost use Rattle.gm_feature.specs.declared.value.Value.TheVariants as value;
 ghost use Rattle.gm_feature.specs.Feature.{value_at};
-ghost use Rattle.gm_feature.specs.Reading.{identifier_from, geometry_from, text_from, truth_from};
-ghost use Rattle.gm_feature.specs.Reading.{instant_from, content_from, value_from};
+ghost use Rattle.gm_feature.specs.Reader.{identifier_from, geometry_from, text_from, truth_from};
+ghost use Rattle.gm_feature.specs.Reader.{instant_from, content_from, value_from};
 ghost use Rattle.gm_feature.specs.Spelling.{geometry_bytes};
 ghost use Rattle.gm_feature.specs.Stored.{IsStored, AreStored, Says, is_point};
 
@@ -143,7 +143,7 @@ fn text_at(bytes: &[u8]) -> &[u8]
     string_at(bytes).0
 }
 
-#[tactic(auto, unfolding(crate::specs::Reading::truth_from))]
+#[tactic(auto, unfolding(crate::specs::Reader::truth_from))]
 fn truth_at(bytes: &[u8]) -> bool
     ensures { ForSome (truth_from bytes.now) (λ x. result ≡ x.0) }
 {

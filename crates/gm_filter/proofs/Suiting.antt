@@ -4,7 +4,7 @@ use Rattle.std.proofs.Common.{suc, sym, subst, arith}
 use Rattle.std.proofs.lemmas.Bool.{and_parts}
 use Rattle.gm_types.specs.Specification.{Specification}
 use Rattle.gm_filter.specs.declared.filter.Filter.{Filter}
-use Rattle.gm_filter.specs.Suits.{suits, all_suit}
+use Rattle.gm_filter.specs.Suitability.{suits, all_suit}
 use Rattle.gm_filter.specs.Tree.{tree, trees_of}
 
 -- the next of some filters that suit a type suits it

@@ -17,8 +17,8 @@ use Rattle.gm_feature.specs.declared.value.Value.TheVariants as value
 use Rattle.gm_feature.specs.declared.feature.Feature.{Feature}
 use Rattle.gm_feature.specs.Feature.{Fits, values_fit, value_at}
 use Rattle.gm_feature.specs.Value.{value_fits, is_of_kind, is_sound}
-use Rattle.gm_filter.specs.Suits.{suits, all_suit, Suits, SuitOneType, passes_kind, is_box, is_kept}
-use Rattle.gm_filter.specs.Suits.{has_area}
+use Rattle.gm_filter.specs.Suitability.{suits, all_suit, Suits, SuitOneType, passes_kind, is_box, is_kept}
+use Rattle.gm_filter.specs.Suitability.{has_area}
 use Rattle.gm_filter.specs.Tree.{Tree, Trees, include, exclude, negated, all, any, compare, between}
 use Rattle.gm_filter.specs.Tree.{like, one_of, is_null, ids, bbox, intersects, disjoint, within}
 use Rattle.gm_filter.specs.Tree.{during, before, after, tequals, no_trees, tree_and, members_of}

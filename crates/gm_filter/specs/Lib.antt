@@ -1,7 +1,7 @@
 pub mod Comparison
 pub mod Like
 pub mod Run
-pub mod Suits
+pub mod Suitability
 pub mod Tested
 pub mod Tree
 pub mod Trial

@@ -7,8 +7,8 @@ ghost use Rattle.gm_calendar.specs.Instant as calendar;
 ghost use Rattle.gm_types.specs.Kind as kinds;
 ghost use Rattle.gm_types.specs.Specification.{kind_at};
 ghost use Rattle.gm_feature.specs.Value.{is_below};
-ghost use Rattle.gm_filter.specs.Suits as spec;
-ghost use Rattle.gm_filter.specs.Suits.{passes_kind};
+ghost use Rattle.gm_filter.specs.Suitability as spec;
+ghost use Rattle.gm_filter.specs.Suitability.{passes_kind};
 ghost use Rattle.gm_filter.specs.Tree.{tree, trees_of, members_of};
 
 use crate::{Filter, Literal, Op};

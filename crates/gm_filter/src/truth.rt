@@ -4,7 +4,7 @@ ghost use Rattle.std.specs.List.{list_any};
 ghost use Rattle.std.specs.Str.{bytes_eq};
 ghost use Rattle.gm_geom.specs.Validity.{fault_of};
 ghost use Rattle.gm_shapes.specs.Meeting.{box_area};
-ghost use Rattle.gm_filter.specs.Suits.{SuitOneType};
+ghost use Rattle.gm_filter.specs.Suitability.{SuitOneType};
 ghost use Rattle.gm_filter.specs.Tree.{tree, trees_of};
 ghost use Rattle.gm_filter.specs.Trial.{MayTry, MayTryAll, IsKeptValue, IsRisingBox};
 ghost use Rattle.gm_filter.specs.Truth as spec;

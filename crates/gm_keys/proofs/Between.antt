@@ -18,7 +18,7 @@ use Rattle.std.specs.declared.cmp.Ordering.{Ordering}
 use Rattle.std.specs.declared.cmp.Ordering.TheVariants.{Less, Equal, Greater}
 use Rattle.byteorder.specs.Endian.{big_bytes}
 use Rattle.byteorder.specs.Numbers.{length-bytes_high_first}
-use Rattle.gm_lexi.specs.After.{raised, after_of, is_before, is_from_to}
+use Rattle.gm_lexi.specs.Ends.{raised, after_of, is_before, is_from_to}
 use Rattle.gm_types.specs.declared.index.IndexKind.{IndexKind}
 use Rattle.gm_types.specs.declared.index.IndexKind.TheVariants.{Id, Z2, Z3, Xz2, Xz3, Attr}
 use Rattle.gm_types.specs.FeatureType.{IsType}

@@ -4,7 +4,7 @@ ghost use Rattle.std.specs.Prelude.{◌≡◌, ◌<◌, ◌≤◌, ◌^◌, ◌&
 ghost use Rattle.std.specs.Prelude.{ℕ, List, [], ◌∷◌, ◌++◌, Some, is_none, true};
 ghost use Rattle.std.specs.Ordering.{nat_cmp, is_le};
 ghost use Rattle.std.specs.Cmp.Lexicographic.{pointwise, slice_cmp};
-ghost use Rattle.gm_lexi.specs.After.{after_of, is_from_to};
+ghost use Rattle.gm_lexi.specs.Ends.{after_of, is_from_to};
 ghost use Rattle.gm_types.specs.declared.index.IndexKind.{IndexKind};
 ghost use Rattle.gm_types.specs.FeatureType.{IsType, HoldsTogether};
 ghost use Rattle.gm_types.specs.Index.{has_index};

@@ -1,7 +1,7 @@
 -- The forms at known values: those of the format, and the ends of each kind.
 use Rattle.std.proofs.Common.{◌≡◌, pos, negsuc, true, false, [], ◌∷◌, Some, None, refl}
 use Rattle.gm_lexi.specs.Lexicode.{int_bytes, long_bytes, date_bytes, bool_bytes, text_bytes}
-use Rattle.gm_lexi.specs.After.{after_of}
+use Rattle.gm_lexi.specs.Ends.{after_of}
 
 int_0 : int_bytes (pos 0) ≡ 0x80 ∷ 0 ∷ 0 ∷ 0 ∷ []
 unfolding int_bytes

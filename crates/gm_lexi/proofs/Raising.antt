@@ -12,7 +12,7 @@ use Rattle.std.specs.Cmp.{nat_cmp_is}
 use Rattle.std.specs.Cmp.Lexicographic.{slice_cmp}
 use Rattle.std.specs.declared.cmp.Ordering.{Ordering}
 use Rattle.std.specs.declared.cmp.Ordering.TheVariants.{Less, Equal, Greater}
-use Rattle.gm_lexi.specs.After.{raised, after_of, is_before, is_from_to}
+use Rattle.gm_lexi.specs.Ends.{raised, after_of, is_before, is_from_to}
 
 -- ---- as told
 full_is : (byte : ℕ) → byte ≡ 255 → nat_eq byte 255 ≡ true

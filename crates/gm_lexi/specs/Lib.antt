@@ -1,2 +1,2 @@
 pub mod Lexicode
-pub mod After
+pub mod Ends

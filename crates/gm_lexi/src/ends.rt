@@ -4,7 +4,7 @@ ghost use Rattle.std.specs.Prelude.{◌++◌, ℕ, List, All, Some, None, nat_eq
 ghost use Rattle.std.specs.List.{starts_with};
 ghost use Rattle.std.specs.Ordering.{nat_cmp, is_le};
 ghost use Rattle.std.specs.Cmp.Lexicographic.{slice_cmp};
-ghost use Rattle.gm_lexi.specs.After.{after_of, is_before, is_from_to};
+ghost use Rattle.gm_lexi.specs.Ends.{after_of, is_before, is_from_to};
 
 use gm_base::{Bytes, NoMemory};
 use std::alloc::Global;

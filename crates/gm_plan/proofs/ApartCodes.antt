@@ -15,7 +15,7 @@ use Rattle.std.specs.declared.cmp.Ordering.TheVariants.{Less, Equal, Greater}
 use Rattle.std.specs.Cmp.Lexicographic.{slice_cmp}
 use Rattle.byteorder.specs.Endian.{big_bytes}
 use Rattle.gm_base.specs.Spans.{Span}
-use Rattle.gm_lexi.specs.After.{after_of, is_before, is_from_to}
+use Rattle.gm_lexi.specs.Ends.{after_of, is_before, is_from_to}
 use Rattle.gm_runs.specs.Runs.{AreRunsFrom}
 use Rattle.gm_table.specs.Sorted.{is_within}
 use Rattle.gm_types.specs.declared.index.IndexKind.{IndexKind}

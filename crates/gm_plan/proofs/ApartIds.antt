@@ -11,7 +11,7 @@ use Rattle.std.specs.declared.cmp.Ordering.{Ordering}
 use Rattle.std.specs.declared.cmp.Ordering.TheVariants.{Less, Equal, Greater}
 use Rattle.std.specs.Cmp.Lexicographic.{slice_cmp, pointwise}
 use Rattle.gm_base.specs.Spans.{Span}
-use Rattle.gm_lexi.specs.After.{after_of, is_from_to}
+use Rattle.gm_lexi.specs.Ends.{after_of, is_from_to}
 use Rattle.gm_table.specs.Sorted.{is_within}
 use Rattle.gm_filter.specs.Tree.{Tree, include, exclude, negated, all, any, compare, between, like}
 use Rattle.gm_filter.specs.Tree.{one_of, is_null, ids, bbox, intersects, disjoint, within, during}

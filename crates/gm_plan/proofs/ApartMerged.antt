@@ -13,7 +13,7 @@ use Rattle.gm_bounds.specs.declared.ranges.Range.TheVariants as range
 use Rattle.gm_bounds.specs.ByteRange.{is_less, less, greater, greater_end, joined, is_void_to}
 use Rattle.gm_bounds.specs.ByteRange.{is_void}
 use Rattle.gm_plan.specs.KeyRanges.{value_range, value_ranges}
-use Rattle.gm_plan.specs.Merged.{ends_below, stands_before, merged_in, merged}
+use Rattle.gm_plan.specs.Merging.{ends_below, stands_before, merged_in, merged}
 use Rattle.gm_plan.specs.Spans.{span_behind, spans_in, value_end}
 use Rattle.gm_plan.proofs.ApartSpans.{C, turned, less_then_le, Excludes, rising, AreExclusive}
 

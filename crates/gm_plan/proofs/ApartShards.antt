@@ -12,7 +12,7 @@ use Rattle.gm_calendar.specs.declared.period.Period.{Period}
 use Rattle.gm_calendar.specs.declared.period.Period.TheVariants.{Day, Week, Month, Year}
 use Rattle.gm_calendar.specs.Period.{last_of}
 use Rattle.gm_geom.specs.declared.point.Box2.{Box2}
-use Rattle.gm_lexi.specs.After.{after_of, is_from_to}
+use Rattle.gm_lexi.specs.Ends.{after_of, is_from_to}
 use Rattle.gm_runs.specs.Runs.{AreRunsFrom}
 use Rattle.gm_table.specs.Sorted.{is_within}
 use Rattle.gm_trees.specs.declared.window.Window.{Window}

@@ -9,7 +9,7 @@ use Rattle.std.specs.Cmp.Lexicographic.{slice_cmp}
 use Rattle.gm_types.specs.declared.kind.Kind.{Kind}
 use Rattle.gm_types.specs.Specification.{Specification, kind_at}
 use Rattle.gm_lexi.specs.Lexicode.{date_bytes}
-use Rattle.gm_lexi.specs.After.{after_of}
+use Rattle.gm_lexi.specs.Ends.{after_of}
 use Rattle.gm_filter.specs.declared.filter.Op.{Op}
 use Rattle.gm_filter.specs.declared.filter.Op.TheVariants.{Eq, Ne, Lt, Le, Gt, Ge}
 use Rattle.gm_filter.specs.Like.{has_wildcard, plain_front}
@@ -28,7 +28,7 @@ use Rattle.gm_bounds.specs.ByteRanges.{text_form, is_blank, has_zero, ranges_of}
 use Rattle.gm_bounds.specs.Lists.{kept, widened, hull_of, capped, pairs_of, pairs, meeting, single}
 use Rattle.gm_bounds.specs.Lists.{listed}
 use Rattle.gm_plan.specs.KeyRanges.{list_of, value_ranges}
-use Rattle.gm_plan.specs.Merged.{merged}
+use Rattle.gm_plan.specs.Merging.{merged}
 use Rattle.gm_plan.specs.Spans.{spans_in}
 use Rattle.gm_plan.proofs.ApartBounds.{IsOf, Keeps, of_tree}
 use Rattle.gm_plan.proofs.ApartIds.{one_shard}

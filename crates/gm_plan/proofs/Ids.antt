@@ -7,7 +7,7 @@ use Rattle.std.specs.List.{list_any}
 use Rattle.std.specs.Ordering.{nat_cmp, is_le}
 use Rattle.std.specs.Cmp.Lexicographic.{slice_cmp, pointwise, bytes_decides}
 use Rattle.std.specs.Str.{bytes_eq}
-use Rattle.gm_lexi.specs.After.{after_of, is_from_to}
+use Rattle.gm_lexi.specs.Ends.{after_of, is_from_to}
 use Rattle.gm_table.specs.Sorted.{is_within}
 use Rattle.gm_types.specs.declared.index.IndexKind.{IndexKind}
 use Rattle.gm_types.specs.declared.index.IndexKind.TheVariants.{Id}

@@ -18,7 +18,7 @@ use Rattle.gm_feature.specs.declared.feature.Feature.{Feature}
 use Rattle.gm_feature.specs.declared.value.Value.{Value}
 use Rattle.gm_feature.specs.Feature.{Fits, value_at}
 use Rattle.gm_feature.specs.Value.{value_fits}
-use Rattle.gm_filter.specs.Suits.{Suits}
+use Rattle.gm_filter.specs.Suitability.{Suits}
 use Rattle.gm_filter.specs.Tree.{Tree}
 use Rattle.gm_filter.specs.Truth.{is_true}
 use Rattle.gm_keys.specs.Cell.{z2_code, xz2_code, cells_of}

@@ -5,7 +5,7 @@ use Rattle.std.proofs.Common.{slice_set, refl, sym, ap, ◌∙◌, arith}
 use Rattle.std.proofs.lemmas.List.{take_more}
 use Rattle.std.proofs.lemmas.Bool.Decides.{nat_tests}
 use Rattle.std.proofs.lemmas.Grind.{take-set_at}
-use Rattle.gm_lexi.specs.After.{raised, after_of}
+use Rattle.gm_lexi.specs.Ends.{raised, after_of}
 use Rattle.gm_plan.specs.Raised.{up_to}
 use Rattle.gm_plan.specs.Spans.{from_to, end_or_none}
 

@@ -8,7 +8,7 @@ use Rattle.std.specs.List.{list_any}
 use Rattle.std.specs.Ordering.{nat_cmp, is_le}
 use Rattle.std.specs.Cmp.Lexicographic.{slice_cmp}
 use Rattle.gm_base.specs.Identifier.{is_identifier}
-use Rattle.gm_lexi.specs.After.{after_of, is_before, is_from_to}
+use Rattle.gm_lexi.specs.Ends.{after_of, is_before, is_from_to}
 use Rattle.gm_table.specs.Sorted.{is_within}
 use Rattle.gm_types.specs.declared.index.IndexKind.{IndexKind}
 use Rattle.gm_types.specs.declared.index.IndexKind.TheVariants.{Attr}
@@ -31,7 +31,7 @@ use Rattle.gm_bounds.specs.ByteRanges.{byte_ranges_of}
 use Rattle.gm_bounds.specs.Found.{IsFound}
 use Rattle.gm_plan.specs.Inside.{is_inside, IsRead}
 use Rattle.gm_plan.specs.KeyRanges.{list_of, value_range, value_ranges}
-use Rattle.gm_plan.specs.Merged.{stands_before, merged_in, merged}
+use Rattle.gm_plan.specs.Merging.{stands_before, merged_in, merged}
 use Rattle.gm_plan.specs.Spans.{spans_in, value_end}
 use Rattle.gm_plan.proofs.FewWindows.{mapped}
 use Rattle.gm_plan.proofs.Found.{found_in_list, never_any}

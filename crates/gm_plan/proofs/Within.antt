@@ -8,7 +8,7 @@ use Rattle.std.proofs.lemmas.Bool.{and_from, or_left, or_right, le-leb, eqb-true
 use Rattle.std.proofs.lemmas.List.Folds.{list_any-append}
 use Rattle.byteorder.specs.Endian.{big_bytes}
 use Rattle.gm_runs.specs.Runs.{HasNumber}
-use Rattle.gm_lexi.specs.After.{after_of, raised, is_from_to}
+use Rattle.gm_lexi.specs.Ends.{after_of, raised, is_from_to}
 use Rattle.gm_table.specs.Sorted.{is_within}
 use Rattle.gm_types.specs.declared.index.IndexKind.{IndexKind}
 use Rattle.gm_types.specs.declared.index.IndexKind.TheVariants.{Id, Z2, Z3, Xz2, Xz3, Attr}

@@ -8,7 +8,7 @@ use Rattle.gm_types.specs.FeatureType.{HoldsTogether}
 use Rattle.gm_types.specs.Specification.{Specification}
 use Rattle.gm_feature.specs.declared.feature.Feature.{Feature}
 use Rattle.gm_feature.specs.Feature.{Fits}
-use Rattle.gm_filter.specs.Suits.{Suits}
+use Rattle.gm_filter.specs.Suitability.{Suits}
 use Rattle.gm_filter.specs.Tree.{Tree}
 use Rattle.gm_filter.specs.Truth.{is_true}
 use Rattle.gm_keys.specs.Key.{key_of}

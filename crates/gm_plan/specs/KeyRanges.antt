@@ -27,7 +27,7 @@ use Rattle.gm_bounds.specs.ByteRanges.{byte_ranges_of}
 use Rattle.gm_bounds.specs.Identifiers.{ids_of}
 use Rattle.gm_bounds.specs.Intervals.{intervals_of}
 use Rattle.gm_plan.specs.Bins.{bins_of}
-use Rattle.gm_plan.specs.Merged.{merged}
+use Rattle.gm_plan.specs.Merging.{merged}
 use Rattle.gm_plan.specs.Windows.{windows_of, windows_in}
 
 -- the list of a bound; none where it is the world

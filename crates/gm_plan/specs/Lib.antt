@@ -4,7 +4,7 @@ pub mod Inside
 pub mod KeyRanges
 pub mod Known
 pub mod Lines
-pub mod Merged
+pub mod Merging
 pub mod Raised
 pub mod Spans
 pub mod Windows

@@ -1,7 +1,7 @@
 -- Ranges as spans of keys: the low end of each is in it, the high end is not.
 use Rattle.std.specs.Prelude.{ℕ, List, [], ◌∷◌, ◌++◌, map, Option, Some, None}
 use Rattle.std.specs.List.{flat_map, range_with_len}
-use Rattle.gm_lexi.specs.After.{after_of}
+use Rattle.gm_lexi.specs.Ends.{after_of}
 use Rattle.gm_types.specs.declared.index.IndexKind.{IndexKind}
 use Rattle.gm_types.specs.Specification.{Specification}
 use Rattle.gm_keys.specs.Key.{prefix_of, code_front, bin_front, bin_code_front}

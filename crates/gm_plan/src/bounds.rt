@@ -1,6 +1,6 @@
 // The lists of a filter's bounds.
 ghost use Rattle.std.specs.Prelude.{◌≡◌, ◌≤◌, length, IfOk};
-ghost use Rattle.gm_filter.specs.Suits.{Suits};
+ghost use Rattle.gm_filter.specs.Suitability.{Suits};
 ghost use Rattle.gm_filter.specs.Tree.{tree};
 ghost use Rattle.gm_bounds.specs.Boxes.{boxes_of};
 ghost use Rattle.gm_bounds.specs.ByteRanges.{byte_ranges_of};

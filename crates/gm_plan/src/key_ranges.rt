@@ -3,7 +3,7 @@ ghost use Rattle.std.specs.Prelude.{◌≡◌, ◌≤◌, ◌∷◌, [], true, m
 ghost use Rattle.gm_bounds.specs.Applicability.{does_apply};
 ghost use Rattle.gm_bounds.specs.Identifiers.{ids_of};
 ghost use Rattle.gm_bounds.specs.declared.ranges.Range.TheVariants.{OneId, All};
-ghost use Rattle.gm_filter.specs.Suits.{Suits};
+ghost use Rattle.gm_filter.specs.Suitability.{Suits};
 ghost use Rattle.gm_filter.specs.Tree.{tree};
 ghost use Rattle.gm_plan.specs.KeyRanges.{id_ranges, key_ranges, in_shards};
 

@@ -3,7 +3,7 @@ ghost use Rattle.std.specs.Prelude.{◌≡◌, ◌++◌, ◌∷◌, [], List, If
 ghost use Rattle.gm_bounds.specs.ByteRange as range;
 ghost use Rattle.gm_bounds.specs.declared.byte_range.ByteRange.{ByteRange};
 ghost use Rattle.gm_plan.specs.KeyRanges.{value_range, value_ranges};
-ghost use Rattle.gm_plan.specs.Merged as spec;
+ghost use Rattle.gm_plan.specs.Merging as spec;
 
 use gm_base::{Bytes, Items, NoMemory};
 use gm_bounds::{ByteRange, ByteRangeItems, Range, RangeList};

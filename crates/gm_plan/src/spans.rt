@@ -2,7 +2,7 @@
 ghost use Rattle.std.specs.Prelude.{◌≡◌, ◌≤◌, ◌++◌, ◌∷◌, [], length, true, false, IfOk, OnOk};
 ghost use Rattle.byteorder.specs.Endian.{big_bytes};
 ghost use Rattle.gm_keys.specs.Key as key;
-ghost use Rattle.gm_lexi.specs.After.{after_of};
+ghost use Rattle.gm_lexi.specs.Ends.{after_of};
 ghost use Rattle.gm_plan.specs.Spans as spec;
 ghost use Rattle.gm_plan.specs.Raised.{up_to};
 

@@ -4,8 +4,8 @@ use Rattle.std.specs.Prelude.{Result, Ok, Err, ⊤, OnOk, IfErr, IsErrOf}
 use Rattle.gm_outside.specs.Failed.{Rose}
 use Rattle.gm_outside.specs.declared.sink.SinkRefusal.{SinkRefusal}
 use Rattle.gm_outside.specs.declared.sink.SinkRefusal.TheVariants as sink
-use Rattle.gm_program.specs.Serving.{HasCause}
-use Rattle.gm_program.specs.Statuses.{status_from, stop_from}
+use Rattle.gm_program.specs.Serve.{HasCause}
+use Rattle.gm_program.specs.Status.{status_from, stop_from}
 use Rattle.gm_program.specs.declared.stop.Stop.{Stop}
 use Rattle.gm_program.specs.declared.stop.Stop.TheVariants as stop
 use Rattle.gm_program.specs.declared.status.Status.TheVariants as status

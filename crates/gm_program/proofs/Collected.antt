@@ -22,7 +22,7 @@ use Rattle.gm_filter.specs.Tree.{Tree}
 use Rattle.gm_filter.specs.Truth.{is_true}
 use Rattle.gm_engine_rows.specs.State.{State, Features, feature_at}
 use Rattle.gm_program.specs.Collecting.{Collected, collected, values_if, Collects}
-use Rattle.gm_program.specs.Finding.{IsAmong, IsTrueOf, Finds}
+use Rattle.gm_program.specs.Found.{IsAmong, IsTrueOf, Finds}
 use Rattle.gm_program.proofs.Bound.{same_some, none_some}
 
 abbrev pub is_key : List ℕ → List ℕ → Bool

@@ -21,9 +21,9 @@ use Rattle.gm_engine_rows.specs.Exchange.{owners_of, removes_of_all, puts_of_all
 use Rattle.gm_engine_rows.specs.Exchange.{new_keys, exchanged_in, IsExchangeIn}
 use Rattle.gm_script.specs.declared.reply.Reply.TheVariants as reply
 use Rattle.gm_program.specs.Limits.{has_too_many_rows}
-use Rattle.gm_program.specs.Matching.{MayTake, IsAnswer}
+use Rattle.gm_program.specs.Matched.{MayTake, IsAnswer}
 use Rattle.gm_program.specs.Question.{answer, rows_examined}
-use Rattle.gm_program.specs.Serving.{Executes}
+use Rattle.gm_program.specs.Serve.{Executes}
 use Rattle.gm_program.specs.Step.{refused, plain, with_value, given, modified, modify_step}
 use Rattle.gm_program.specs.Store.{Types, Holds, IsTypeOf}
 use Rattle.gm_program.proofs.Answering.{each_as}

@@ -21,7 +21,7 @@ use Rattle.gm_types.specs.Specification.{Specification, shards_of}
 use Rattle.gm_feature.specs.declared.feature.Feature.{Feature}
 use Rattle.gm_feature.specs.Feature.{Fits}
 use Rattle.gm_feature.specs.Spelling.{feature_bytes}
-use Rattle.gm_filter.specs.Suits.{Suits}
+use Rattle.gm_filter.specs.Suitability.{Suits}
 use Rattle.gm_filter.specs.Tree.{Tree}
 use Rattle.gm_filter.specs.Truth.{is_true}
 use Rattle.gm_keys.specs.Key.{key_of}
@@ -33,8 +33,8 @@ use Rattle.gm_plan.specs.KeyRanges.{key_ranges}
 use Rattle.gm_plan.specs.Spans.{spans_of}
 use Rattle.gm_plan.specs.Inside.{is_inside, read_spans, IsRead}
 use Rattle.gm_scan.specs.Held.{AreBytesOf, HasFeature, Hold, matching}
-use Rattle.gm_strategy.specs.Chosen.{Chosen, IsServed}
-use Rattle.gm_program.specs.Finding.{IsAmong, Finds}
+use Rattle.gm_strategy.specs.Choice.{Chosen, IsServed}
+use Rattle.gm_program.specs.Found.{IsAmong, Finds}
 use Rattle.gm_program.specs.Question.{rows_read}
 use Rattle.gm_program.specs.Store.{IsTypeOf}
 use Rattle.gm_program.proofs.Bound.{Found, Stand, same_some}

@@ -20,8 +20,8 @@ use Rattle.gm_program.specs.Lines.{complete_from, partial_from, lines_of, last_l
 use Rattle.gm_program.specs.Machine.{Machine, machine_at, after, replies, examined_by, end_turn}
 use Rattle.gm_program.specs.Machine.{output, examined, state_after, last_turn}
 use Rattle.gm_program.specs.Running.{Loads, made_output}
-use Rattle.gm_program.specs.Serving.{Moment, moment, KeptAt, Goes, Serves, Closes, closing, Writes}
-use Rattle.gm_program.specs.Serving.{WritesPart}
+use Rattle.gm_program.specs.Serve.{Moment, moment, KeptAt, Goes, Serves, Closes, closing, Writes}
+use Rattle.gm_program.specs.Serve.{WritesPart}
 use Rattle.gm_program.proofs.Cutting.{partial_from-append}
 use Rattle.gm_program.proofs.Streaming.{closes_on, closing-append, lines_of-append, part_behind}
 use Rattle.gm_program.proofs.Streaming.{part_of_more, part_same}

@@ -9,8 +9,8 @@ use Rattle.gm_table.specs.Sorted.{Rows}
 use Rattle.gm_types.specs.Specification.{Specification}
 use Rattle.gm_filter.specs.Tree.{Tree, tree}
 use Rattle.gm_strategy.specs.declared.part.Part.{Part}
-use Rattle.gm_strategy.specs.Chosen.{Chosen, IsServed, chosen_of}
-use Rattle.gm_program.specs.Finding.{tests_of}
+use Rattle.gm_strategy.specs.Choice.{Chosen, IsServed, chosen_of}
+use Rattle.gm_program.specs.Found.{tests_of}
 use Rattle.gm_program.specs.Question.{rows_read, rows_examined, part_lines, plan_lines}
 use Rattle.gm_program.proofs.Planned.{map-append, examined_more}
 

@@ -21,11 +21,11 @@ use Rattle.gm_plan.specs.Inside.{is_inside, read_spans}
 use Rattle.gm_script.specs.declared.reply.Reply.TheVariants as reply
 use Rattle.gm_script.specs.Order.{Asked}
 use Rattle.gm_script.specs.Suits.{IsHint}
-use Rattle.gm_strategy.specs.Chosen.{Chosen}
+use Rattle.gm_strategy.specs.Choice.{Chosen}
 use Rattle.gm_strategy.specs.Plan.{plan_of}
-use Rattle.gm_program.specs.Finding.{tests_of}
+use Rattle.gm_program.specs.Found.{tests_of}
 use Rattle.gm_program.specs.Question.{rows_read, rows_examined}
-use Rattle.gm_program.specs.Serving.{Executes}
+use Rattle.gm_program.specs.Serve.{Executes}
 use Rattle.gm_program.specs.Step.{Outcome, refused, planned, asked_of, is_target}
 use Rattle.gm_program.specs.Store.{Types, Holds, IsTypeOf}
 use Rattle.gm_program.proofs.Collected.{AreNamed}

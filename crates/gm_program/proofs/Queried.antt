@@ -16,15 +16,15 @@ use Rattle.gm_script.specs.declared.reply.Reply.TheVariants as reply
 use Rattle.gm_script.specs.Order.{Asked}
 use Rattle.gm_script.specs.Reply.{row_line}
 use Rattle.gm_strategy.specs.declared.part.Part.{Part}
-use Rattle.gm_strategy.specs.Chosen.{chosen_of}
+use Rattle.gm_strategy.specs.Choice.{chosen_of}
 use Rattle.gm_program.specs.declared.execute.plan.Planned.TheVariants as plan
 use Rattle.gm_program.specs.Collecting.{Counts}
-use Rattle.gm_program.specs.Finding.{tests_of}
+use Rattle.gm_program.specs.Found.{tests_of}
 use Rattle.gm_program.specs.InOrder.{AreRowsOf, in_order}
 use Rattle.gm_program.specs.Kept.{AreKept}
-use Rattle.gm_program.specs.Planning.{IsPlanned}
+use Rattle.gm_program.specs.Plan.{IsPlanned}
 use Rattle.gm_program.specs.Question.{answer, rows_examined}
-use Rattle.gm_program.specs.Serving.{Executes}
+use Rattle.gm_program.specs.Serve.{Executes}
 use Rattle.gm_program.specs.Step.{found, counted, query_step, count_step}
 use Rattle.gm_program.specs.Store.{Types, Holds}
 use Rattle.gm_program.proofs.Answering.{each_as, answer_length}

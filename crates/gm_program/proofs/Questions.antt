@@ -18,14 +18,14 @@ use Rattle.gm_script.specs.declared.reply.Reply.TheVariants as reply
 use Rattle.gm_script.specs.Order.{Asked}
 use Rattle.gm_script.specs.Suits.{IsQuestion}
 use Rattle.gm_strategy.specs.declared.part.Part.{Part}
-use Rattle.gm_strategy.specs.Chosen.{Chosen, chosen_of}
+use Rattle.gm_strategy.specs.Choice.{Chosen, chosen_of}
 use Rattle.gm_strategy.specs.Plan.{plan_of}
 use Rattle.gm_program.specs.declared.execute.plan.Planned.TheVariants as plan
 use Rattle.gm_program.specs.Collecting.{Collected, feature_of, Collects}
-use Rattle.gm_program.specs.Finding.{tests_of}
-use Rattle.gm_program.specs.Planning.{IsPlanned}
+use Rattle.gm_program.specs.Found.{tests_of}
+use Rattle.gm_program.specs.Plan.{IsPlanned}
 use Rattle.gm_program.specs.Question.{answer, rows_examined, plan_lines}
-use Rattle.gm_program.specs.Serving.{Executes}
+use Rattle.gm_program.specs.Serve.{Executes}
 use Rattle.gm_program.specs.Step.{Outcome, asked_of, is_target, found, counted, explained}
 use Rattle.gm_program.specs.Step.{query_step, count_step, explain_step}
 use Rattle.gm_program.specs.Store.{Types, Holds, HasState, HasType}

@@ -9,7 +9,7 @@ use Rattle.gm_scan.specs.Held.{Hold, matching}
 use Rattle.gm_plan.specs.Inside.{read_spans}
 use Rattle.gm_engine_rows.specs.State.{State}
 use Rattle.gm_engine_rows.specs.Rows.{rows_of}
-use Rattle.gm_strategy.specs.Chosen.{Chosen, IsServed}
+use Rattle.gm_strategy.specs.Choice.{Chosen, IsServed}
 use Rattle.gm_program.specs.Collecting.{collected}
 use Rattle.gm_program.specs.Spans.{AreReadFor}
 use Rattle.gm_program.specs.Store.{IsTypeOf}

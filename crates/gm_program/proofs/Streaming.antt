@@ -24,8 +24,8 @@ use Rattle.gm_table.specs.Sorted.{Rows}
 use Rattle.gm_program.specs.declared.pending.Pending.{Pending}
 use Rattle.gm_program.specs.declared.pending.Pending.TheVariants.{Nothing}
 use Rattle.gm_program.specs.Store.{Types, HasState}
-use Rattle.gm_program.specs.Serving.{Moment, HasMachine, KeptAt, Takes, Goes, Serves, Closes}
-use Rattle.gm_program.specs.Serving.{closing, Writes, WritesPart, Took, Streams, Breaks, Stopped}
+use Rattle.gm_program.specs.Serve.{Moment, HasMachine, KeptAt, Takes, Goes, Serves, Closes}
+use Rattle.gm_program.specs.Serve.{closing, Writes, WritesPart, Took, Streams, Breaks, Stopped}
 use Rattle.gm_program.specs.Running.{Finishes}
 use Rattle.gm_program.proofs.Cutting.{complete_from-append, partial_from-append, complete_from-more}
 use Rattle.gm_program.proofs.Cutting.{partial_from-more, complete_from-all, cut-none, IsInsideLine}

@@ -14,7 +14,7 @@ use Rattle.gm_feature.specs.declared.value.Value.TheVariants.{Null}
 use Rattle.gm_feature.specs.Feature.{Fits, values_fit, has_bin, date_has_bin, has_time_index}
 use Rattle.gm_feature.specs.Value.{value_fits}
 use Rattle.gm_script.specs.Bins.{is_place}
-use Rattle.gm_program.specs.Matching.{MayTake}
+use Rattle.gm_program.specs.Matched.{MayTake}
 use Rattle.gm_program.specs.Step.{with_value}
 use Rattle.gm_program.proofs.Bound.{same_some}
 

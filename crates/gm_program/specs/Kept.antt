@@ -7,7 +7,7 @@ use Rattle.gm_scan.specs.declared.found_rows.Keeping.{Keeping}
 use Rattle.gm_scan.specs.FoundRows.{FoundRow, kept_of}
 use Rattle.gm_engine_rows.specs.State.{State, feature_at}
 use Rattle.gm_program.specs.Collecting.{Collects, collected}
-use Rattle.gm_program.specs.Finding.{Finds}
+use Rattle.gm_program.specs.Found.{Finds}
 
 -- a part adds what it finds
 pub record Adds (s : State) (n : ℕ) (test : Tree) (keeping : Keeping)

@@ -11,7 +11,7 @@ use Rattle.gm_plan.specs.KeyRanges.{key_ranges}
 use Rattle.gm_plan.specs.Inside.{is_inside, read_spans}
 use Rattle.gm_plan.specs.Lines.{lines_of}
 use Rattle.gm_script.specs.Part.{part_text}
-use Rattle.gm_strategy.specs.Chosen.{Chosen}
+use Rattle.gm_strategy.specs.Choice.{Chosen}
 
 -- the features of a type of which the filter is true, each once, in byte order of their identifiers
 abbrev pub answer : ℕ → Tree → State → List Feature

@@ -9,9 +9,9 @@ use Rattle.gm_feature.specs.declared.feature.Feature.{Feature}
 use Rattle.gm_engine_rows.specs.State.{State}
 use Rattle.gm_engine_rows.specs.Rows.{rows_of}
 use Rattle.gm_scan.specs.Held.{HasFeature, Hold, matching}
-use Rattle.gm_strategy.specs.Chosen.{Chosen}
+use Rattle.gm_strategy.specs.Choice.{Chosen}
 use Rattle.gm_program.specs.Collecting.{Counts}
-use Rattle.gm_program.specs.Finding.{Finds}
+use Rattle.gm_program.specs.Found.{Finds}
 use Rattle.gm_program.specs.Question.{rows_read}
 
 -- No key is in two of the spans, and each row in them is of a feature of the type. Of these

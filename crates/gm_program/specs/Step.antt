@@ -18,7 +18,7 @@ use Rattle.gm_script.specs.Order.{query, count, explain, describe}
 use Rattle.gm_script.specs.Reply.{row_line}
 use Rattle.gm_script.specs.declared.reply.Reply.{Reply}
 use Rattle.gm_script.specs.declared.reply.Reply.TheVariants as reply
-use Rattle.gm_strategy.specs.Chosen.{Chosen}
+use Rattle.gm_strategy.specs.Choice.{Chosen}
 use Rattle.gm_strategy.specs.Plan.{plan_of}
 use Rattle.gm_program.specs.declared.setting.Setting.{Setting}
 use Rattle.gm_program.specs.Limits.{has_too_many_rows}

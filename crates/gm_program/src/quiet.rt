@@ -3,7 +3,7 @@ ghost use Rattle.std.specs.Prelude.{◌≡◌, ◌<◌, [], None, length, IfOk, 
 ghost use Rattle.gm_outside.specs.Sink.{within_none};
 ghost use Rattle.gm_program.specs.Lines.{complete_from};
 ghost use Rattle.gm_program.specs.Machine.{Machine};
-ghost use Rattle.gm_program.specs.Serving.{moment, Keeps, HasMachine, Serves};
+ghost use Rattle.gm_program.specs.Serve.{moment, Keeps, HasMachine, Serves};
 
 use crate::pending::Pending;
 use crate::serve::serve_piece;

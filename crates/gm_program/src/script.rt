@@ -10,8 +10,8 @@ ghost use Rattle.gm_program.specs.Running.{Ends, Finishes, Loads, RepliesToTaken
 ghost use Rattle.gm_program.specs.Running.{NeedNoSource, made_output, setting_of, whole_output};
 ghost use Rattle.gm_engine_rows.specs.State.{State};
 ghost use Rattle.gm_program.specs.Store.{Holds, HasState};
-ghost use Rattle.gm_program.specs.Serving.{moment, Keeps, HasMachine, Serves, Closes, closing};
-ghost use Rattle.gm_program.specs.Serving.{WritesPart, Streams, Breaks, Stopped, HasCause};
+ghost use Rattle.gm_program.specs.Serve.{moment, Keeps, HasMachine, Serves, Closes, closing};
+ghost use Rattle.gm_program.specs.Serve.{WritesPart, Streams, Breaks, Stopped, HasCause};
 ghost use Rattle.gm_program.specs.Usage.{options_of};
 
 use crate::options::{Made, WordsFault};

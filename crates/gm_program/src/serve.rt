@@ -8,8 +8,8 @@ ghost use Rattle.gm_engine_rows.specs.State.{State};
 ghost use Rattle.gm_program.specs.Store.{HasState, Holds};
 ghost use Rattle.gm_script.specs.Reading.{reading};
 ghost use Rattle.gm_program.specs.Lines.{complete_from, partial_from, cut};
-ghost use Rattle.gm_program.specs.Serving.{moment, Keeps, HasMachine, Executes, Takes};
-ghost use Rattle.gm_program.specs.Serving.{Writes, WritesPart, Goes, Serves};
+ghost use Rattle.gm_program.specs.Serve.{moment, Keeps, HasMachine, Executes, Takes};
+ghost use Rattle.gm_program.specs.Serve.{Writes, WritesPart, Goes, Serves};
 
 use crate::execute::execute;
 use crate::pending::Pending;

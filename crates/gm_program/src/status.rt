@@ -1,6 +1,6 @@
 // How a run ends.
 ghost use Rattle.std.specs.Prelude.{◌≡◌};
-ghost use Rattle.gm_program.specs.Statuses.{status_number};
+ghost use Rattle.gm_program.specs.Status.{status_number};
 
 /// How a run ended. `docs/LANGUAGE.md` says when each comes.
 #[derive(Clone, Copy, Debug, PartialEq, Eq)]

@@ -1,6 +1,6 @@
 // Why serving ends before the script does.
 ghost use Rattle.std.specs.Prelude.{◌≡◌};
-ghost use Rattle.gm_program.specs.Statuses.{made_status, status_from, stop_from};
+ghost use Rattle.gm_program.specs.Status.{made_status, status_from, stop_from};
 
 use crate::Status;
 use gm_outside::SinkRefusal;

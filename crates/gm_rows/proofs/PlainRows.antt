@@ -10,8 +10,8 @@ use Rattle.std.proofs.lemmas.List.{length-drop, get_or-drop, drop_all, take_all}
 use Rattle.csv.specs.Machine.{next_record}
 use Rattle.csv.specs.Reading.{default_config, strip_bom}
 use Rattle.csv.specs.declared.parser.State.TheVariants as state
-use Rattle.gm_rows.specs.Printing.{is_marked, begins_with_mark, further, has_line_feed}
-use Rattle.gm_rows.specs.Reading.{is_plain_byte, is_plain, cut_from, if_alone, record_of}
+use Rattle.gm_rows.specs.Printer.{is_marked, begins_with_mark, further, has_line_feed}
+use Rattle.gm_rows.specs.Reader.{is_plain_byte, is_plain, cut_from, if_alone, record_of}
 use Rattle.gm_rows.proofs.Printed.{short-strip, not-bom, record_plain, start_plain, end_field}
 use Rattle.gm_rows.proofs.Printed.{end_row, nothing_more, no_field, plain_run}
 

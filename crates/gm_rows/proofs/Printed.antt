@@ -8,9 +8,9 @@ use Rattle.std.proofs.lemmas.Bool.{cases_Bool, eqb-true}
 use Rattle.csv.specs.Machine.{next_record}
 use Rattle.csv.specs.Reading.{default_config, is_bom, strip_bom}
 use Rattle.csv.specs.declared.parser.State.TheVariants as state
-use Rattle.gm_rows.specs.Printing.{is_marked, begins_with_mark, is_quoted, doubled, printed}
-use Rattle.gm_rows.specs.Printing.{further, record_text, has_line_feed, HaveNoLineFeed}
-use Rattle.gm_rows.specs.Reading.{first_record, record_of}
+use Rattle.gm_rows.specs.Printer.{is_marked, begins_with_mark, is_quoted, doubled, printed}
+use Rattle.gm_rows.specs.Printer.{further, record_text, has_line_feed, HaveNoLineFeed}
+use Rattle.gm_rows.specs.Reader.{first_record, record_of}
 
 or-left : (a b : Bool) → (a || b) ≡ false → a ≡ false
 or-left false b e = refl

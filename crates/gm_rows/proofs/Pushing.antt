@@ -11,7 +11,7 @@ use Rattle.gm_feature.specs.declared.value.Value.TheVariants.{Null}
 use Rattle.gm_feature.specs.Stored.{AreStored}
 use Rattle.gm_types.specs.declared.attribute.Attribute.{Attribute}
 use Rattle.gm_types.specs.Specification.{Specification, kinds_of}
-use Rattle.gm_rows.specs.Printing.{field_of, further, printed}
+use Rattle.gm_rows.specs.Printer.{field_of, further, printed}
 
 further-step : (value : Value) (values : List Value)
     → further (map field_of (value ∷ values))

@@ -25,13 +25,13 @@ use Rattle.gm_types.specs.declared.kind.Kind.{Kind}
 use Rattle.gm_types.specs.declared.kind.Kind.TheVariants as kind
 use Rattle.gm_types.specs.Specification.{Specification, kinds_of}
 use Rattle.gm_wkt.specs.Answer.{answer_of}
-use Rattle.gm_wkt.specs.Printing as wkt
+use Rattle.gm_wkt.specs.Printer as wkt
 use Rattle.gm_rows.specs.declared.fault.RowFault.TheVariants as fault
 use Rattle.gm_rows.specs.Lines.{IsOnOneLine, AreOnOneLine}
-use Rattle.gm_rows.specs.Printing.{has_line_feed, HaveNoLineFeed, field_of, row_text}
-use Rattle.gm_rows.specs.Reading.{is_within, read_as, shaped, value_of, value_of_some, values_of}
-use Rattle.gm_rows.specs.Reading.{joined, before, feature_if, feature_from, feature_of_record}
-use Rattle.gm_rows.specs.Reading.{row_of}
+use Rattle.gm_rows.specs.Printer.{has_line_feed, HaveNoLineFeed, field_of, row_text}
+use Rattle.gm_rows.specs.Reader.{is_within, read_as, shaped, value_of, value_of_some, values_of}
+use Rattle.gm_rows.specs.Reader.{joined, before, feature_if, feature_from, feature_of_record}
+use Rattle.gm_rows.specs.Reader.{row_of}
 use Rattle.gm_rows.proofs.Numbers.{reads_again, no_feed_in_number, number_is_some}
 use mir.Syntax.{w32, w64}
 use mir.Val.{hbits}

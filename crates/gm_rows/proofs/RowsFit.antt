@@ -25,7 +25,7 @@ use Rattle.gm_wkt.specs.Answer.{answer_of, judged, kept_or}
 use Rattle.gm_wkt.specs.Value.{geometry_of}
 use Rattle.gm_rows.specs.declared.fault.RowFault.{RowFault}
 use Rattle.gm_rows.specs.declared.fault.RowFault.TheVariants as fault
-use Rattle.gm_rows.specs.Reading as spec
+use Rattle.gm_rows.specs.Reader as spec
 
 not_ok : {A : Type 0} {x : A} {P : Type 0} {why : RowFault} → Err why ≡ Ok x → P
 not_ok e = absurd (cc)

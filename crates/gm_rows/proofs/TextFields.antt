@@ -8,7 +8,7 @@ use Rattle.std.proofs.lemmas.Str.{IsUtf8-from_is_utf8, is_utf8-from_IsUtf8}
 use Rattle.gm_feature.specs.declared.value.Value.TheVariants as value
 use Rattle.gm_feature.specs.Value.{has_text_form}
 use Rattle.gm_rows.specs.declared.fault.RowFault.TheVariants as fault
-use Rattle.gm_rows.specs.Reading.{text_of, read_as}
+use Rattle.gm_rows.specs.Reader.{text_of, read_as}
 
 -- what is no UTF-8 is no text
 pub no_text : (bytes : List ℕ) → ¬ IsUtf8 bytes

@@ -4,7 +4,7 @@ use Rattle.std.proofs.Common.{inl, inr, ◌||◌, ◌&&◌, ◌++◌}
 use Rattle.std.specs.Prelude.{if◌then◌else◌}
 use Rattle.std.specs.List.{list_all}
 use Rattle.std.proofs.lemmas.Bool.{cases_Bool, eqb-true, and_parts, false≢true, or_from}
-use Rattle.gm_rows.specs.Printing.{is_marked, has_marked, begins_with_mark, doubled, printed}
+use Rattle.gm_rows.specs.Printer.{is_marked, has_marked, begins_with_mark, doubled, printed}
 
 -- a test that no comma, double quote, 0x0D or first byte of U+FEFF passes
 pub record IsPlainTest (test : ℕ → Bool) : Type 0 where

@@ -1,3 +1,3 @@
 pub mod Lines
-pub mod Printing
-pub mod Reading
+pub mod Printer
+pub mod Reader

@@ -2,7 +2,7 @@
 use Rattle.std.specs.Prelude.{◌≡◌, false, ⊤, List, [], ◌∷◌}
 use Rattle.gm_feature.specs.declared.value.Value.{Value}
 use Rattle.gm_feature.specs.declared.value.Value.TheVariants as value
-use Rattle.gm_rows.specs.Printing.{has_line_feed}
+use Rattle.gm_rows.specs.Printer.{has_line_feed}
 
 -- no text has a byte 0x0A
 abbrev pub IsOnOneLine : Value → Type 0

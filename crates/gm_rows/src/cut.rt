@@ -1,7 +1,7 @@
 // Rows that are cut at their commas.
 ghost use Rattle.std.specs.Prelude.{◌≡◌, [], map, IfOk};
 ghost use Rattle.std.specs.List.{list_all};
-ghost use Rattle.gm_rows.specs.Reading as spec;
+ghost use Rattle.gm_rows.specs.Reader as spec;
 
 use crate::printer::begins_with_mark;
 use gm_base::NoMemory;
@@ -24,7 +24,7 @@ pub(crate) fn is_plain(row: &[u8]) -> bool
 }
 
 /// What stands between the commas.
-#[tactic(auto, unfolding(crate::specs::Reading::cut_from))]
+#[tactic(auto, unfolding(crate::specs::Reader::cut_from))]
 pub(crate) fn cut_row<'a>(alloc: Global, row: &'a [u8]) -> Result<Vec<&'a [u8]>, NoMemory>
     ensures { IfOk result (λ fields. map (λ f. f.now) fields.items ≡ spec.cut_from [] [] row.now) }
 {

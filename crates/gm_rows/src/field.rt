@@ -1,8 +1,8 @@
 // One field read.
 ghost use Rattle.std.specs.Prelude.{◌≡◌};
 ghost use Rattle.gm_calendar.specs.Spelling.{instant_of};
-ghost use Rattle.gm_rows.specs.Reading as spec;
-ghost use Rattle.gm_rows.specs.Reading.{Answers};
+ghost use Rattle.gm_rows.specs.Reader as spec;
+ghost use Rattle.gm_rows.specs.Reader.{Answers};
 ghost use Rattle.gm_wkt.specs.Answer.{answer_of};
 
 use crate::RowFault;

@@ -3,8 +3,8 @@ ghost use Rattle.std.specs.Prelude.{◌≡◌, ◌≢◌, [], ◌∷◌, ℕ, Li
 ghost use Rattle.gm_feature.specs.declared.feature.Feature.{Feature};
 ghost use Rattle.gm_feature.specs.Feature.{Fits};
 ghost use Rattle.gm_rows.specs.Lines.{AreOnOneLine};
-ghost use Rattle.gm_rows.specs.Printing.{record_text, row_text, HaveNoLineFeed};
-ghost use Rattle.gm_rows.specs.Reading.{record_of, row_of};
+ghost use Rattle.gm_rows.specs.Printer.{record_text, row_text, HaveNoLineFeed};
+ghost use Rattle.gm_rows.specs.Reader.{record_of, row_of};
 ghost use Rattle.gm_types.specs.Specification.{Specification};
 
 use gm_calendar::printed_instants_are_read;

@@ -4,10 +4,10 @@ ghost use Rattle.std.specs.Fmt.{signed_decimal};
 ghost use Rattle.std.specs.String.{string_bytes};
 ghost use Rattle.gm_feature.specs.Feature.{Fits};
 ghost use Rattle.gm_rows.specs.Lines.{AreOnOneLine};
-ghost use Rattle.gm_rows.specs.Reading.{row_of};
-ghost use Rattle.gm_rows.specs.Printing.{begins_with_mark, has_marked, is_quoted, doubled};
-ghost use Rattle.gm_rows.specs.Printing.{printed, field_of, further, row_text, truth_text};
-ghost use Rattle.gm_wkt.specs.Printing as wkt;
+ghost use Rattle.gm_rows.specs.Reader.{row_of};
+ghost use Rattle.gm_rows.specs.Printer.{begins_with_mark, has_marked, is_quoted, doubled};
+ghost use Rattle.gm_rows.specs.Printer.{printed, field_of, further, row_text, truth_text};
+ghost use Rattle.gm_wkt.specs.Printer as wkt;
 
 use crate::printed_rows_are_read;
 use gm_base::{NoMemory, Text};

@@ -1,8 +1,8 @@
 // Rows read.
 ghost use Rattle.std.specs.Prelude.{◌≡◌, ◌∷◌, drop, map, true, Some, Ok, IfOk};
 ghost use Rattle.gm_feature.specs.Feature.{Fits};
-ghost use Rattle.gm_rows.specs.Reading as spec;
-ghost use Rattle.gm_rows.specs.Reading.{Answers};
+ghost use Rattle.gm_rows.specs.Reader as spec;
+ghost use Rattle.gm_rows.specs.Reader.{Answers};
 
 use crate::cut::{cut_row, is_plain};
 use crate::field::read_field;

@@ -1,7 +1,7 @@
 // The one record of a row.
 ghost use Rattle.std.specs.Prelude.{◌≡◌, IfOk, option_map, map};
 ghost use Rattle.csv.specs.Records.{fields_of};
-ghost use Rattle.gm_rows.specs.Reading.{record_of};
+ghost use Rattle.gm_rows.specs.Reader.{record_of};
 
 use csv::{ByteRecord, ErrorKind, ReaderBuilder};
 use gm_base::NoMemory;

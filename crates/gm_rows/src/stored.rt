@@ -6,8 +6,8 @@ ghost use Rattle.gm_feature.specs.declared.value.Value.{Value as AnyValue};
 ghost use Rattle.gm_feature.specs.Stored.{IsStored, AreStored, IsStoredGeometry, Says};
 ghost use Rattle.gm_feature.specs.Value.{is_sound};
 ghost use Rattle.gm_geom.specs.declared.geometry.Geometry.{Geometry as AnyGeometry};
-ghost use Rattle.gm_rows.specs.Printing.{printed, field_of, further, row_text};
-ghost use Rattle.gm_wkt.specs.Printing as wkt;
+ghost use Rattle.gm_rows.specs.Printer.{printed, field_of, further, row_text};
+ghost use Rattle.gm_wkt.specs.Printer as wkt;
 
 use crate::printer::{push_field, push_geometry, push_integer, push_long, truth_text};
 use gm_base::NoMemory;

@@ -3,7 +3,7 @@ use Rattle.std.proofs.Common.{◌≡◌, ◌<◌, true, List, [], ◌∷◌, len
 use Rattle.std.proofs.Common.{suc, sym, subst, arith}
 use Rattle.std.proofs.lemmas.Bool.{and_parts}
 use Rattle.gm_types.specs.Specification.{Specification}
-use Rattle.gm_filter.specs.Suits.{suits, all_suit}
+use Rattle.gm_filter.specs.Suitability.{suits, all_suit}
 use Rattle.gm_filter.specs.Tree.{trees_of}
 use Rattle.gm_scan.specs.declared.test.Test.{Test}
 use Rattle.gm_scan.specs.Test.{tree_of}

@@ -5,7 +5,7 @@ ghost use Rattle.gm_table.specs.Apart.{AreApart};
 ghost use Rattle.gm_table.specs.Spans.{rows_in};
 ghost use Rattle.gm_table.specs.Visit.{Handed};
 ghost use Rattle.gm_feature.specs.declared.feature.Feature.{Feature as AnyFeature};
-ghost use Rattle.gm_filter.specs.Suits.{Suits};
+ghost use Rattle.gm_filter.specs.Suitability.{Suits};
 ghost use Rattle.gm_filter.specs.Tree.{tree};
 ghost use Rattle.gm_scan.specs.FoundRows.{kept_of};
 ghost use Rattle.gm_scan.specs.Held.{HasFeature, Hold, matching};

@@ -2,7 +2,7 @@
 ghost use Rattle.std.specs.Prelude.{◌≡◌, true, IfOk, map};
 ghost use Rattle.gm_feature.specs.declared.feature.Feature.{Feature};
 ghost use Rattle.gm_feature.specs.Stored.{IsStored};
-ghost use Rattle.gm_filter.specs.Suits.{Suits, all_suit};
+ghost use Rattle.gm_filter.specs.Suitability.{Suits, all_suit};
 ghost use Rattle.gm_filter.specs.Tree.{tree, trees_of};
 ghost use Rattle.gm_filter.specs.Truth.{is_true, are_all_true, is_any_true};
 ghost use Rattle.gm_scan.specs.Test.{tree_of};

@@ -1,7 +1,7 @@
 // A filter that is tried on the rows of a type.
 ghost use Rattle.std.specs.Prelude.{◌≡◌, IfOk};
 ghost use Rattle.gm_feature.specs.declared.feature.Feature.{Feature};
-ghost use Rattle.gm_filter.specs.Suits.{Suits};
+ghost use Rattle.gm_filter.specs.Suitability.{Suits};
 ghost use Rattle.gm_filter.specs.Tree.{tree};
 ghost use Rattle.gm_filter.specs.Truth.{is_true};
 ghost use Rattle.gm_scan.specs.Held.{AreBytesOf, HasFeature, passing};

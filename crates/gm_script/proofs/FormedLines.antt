@@ -4,7 +4,7 @@ use Rattle.std.proofs.Common.{inr, None, Result, option_map, option_and_then}
 use Rattle.std.specs.Prelude.{◌⊎◌, if◌then◌else◌, slice_get}
 use Rattle.gm_base.specs.declared.code.Code.TheVariants.{E04, E06}
 use Rattle.gm_types.specs.Specification.{Specification}
-use Rattle.gm_types.specs.Types.{number_of_name}
+use Rattle.gm_types.specs.TypeList.{number_of_name}
 use Rattle.gm_types.specs.Words.{is_name}
 use Rattle.gm_script.specs.declared.fault.LineFault.{LineFault}
 use Rattle.gm_script.specs.Laid.{IsTypeNamed}

@@ -4,7 +4,7 @@ use Rattle.std.specs.Prelude.{length, codes, slice_get, Option, Some, None}
 use Rattle.std.specs.List.{ends_with}
 use Rattle.std.specs.Str.{is_utf8}
 use Rattle.gm_types.specs.Specification.{Specification}
-use Rattle.gm_types.specs.Types.{number_of_name}
+use Rattle.gm_types.specs.TypeList.{number_of_name}
 use Rattle.gm_types.specs.Words.{is_name}
 use Rattle.gm_script.specs.Ask.{has_option, target_of}
 use Rattle.gm_script.specs.Order.{Asked, Order}

@@ -3,7 +3,7 @@ pub mod Line
 pub mod Order
 pub mod Ask
 pub mod Bins
-pub mod Faults
+pub mod Fault
 pub mod Reading
 pub mod Suits
 pub mod Laid

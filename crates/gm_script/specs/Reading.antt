@@ -8,14 +8,14 @@ use Rattle.gm_base.specs.declared.code.Code.TheVariants.{E01, E02, E03, E04, E05
 use Rattle.gm_base.specs.declared.code.Code.TheVariants.{E12, E17, E19}
 use Rattle.gm_base.specs.Identifier.{is_identifier}
 use Rattle.gm_types.specs.declared.index.IndexKind.{IndexKind}
-use Rattle.gm_types.specs.Reading.{specification_of}
+use Rattle.gm_types.specs.Reader.{specification_of}
 use Rattle.gm_types.specs.Specification.{Specification}
-use Rattle.gm_types.specs.Types.{number_of_name}
+use Rattle.gm_types.specs.TypeList.{number_of_name}
 use Rattle.gm_types.specs.Words.{same_text, is_name}
 use Rattle.gm_feature.specs.declared.feature.Feature.{Feature}
 use Rattle.gm_filter.specs.Tree.{Tree}
 use Rattle.gm_rows.specs.declared.fault.RowFault.{RowFault}
-use Rattle.gm_rows.specs.Reading.{row_of}
+use Rattle.gm_rows.specs.Reader.{row_of}
 use Rattle.gm_ecql.specs.declared.fault.FilterFault.{FilterFault}
 use Rattle.gm_ecql.specs.Outcome.{Meant, filter_outcome, change_outcome}
 use Rattle.gm_script.specs.declared.command.Ask.{Ask}
@@ -24,7 +24,7 @@ use Rattle.gm_script.specs.declared.fault.LineFault.{LineFault}
 use Rattle.gm_script.specs.declared.fault.LineFault.TheVariants as fault
 use Rattle.gm_script.specs.Ask.{hint_in, target_in, past_words, target_of, hinted}
 use Rattle.gm_script.specs.Bins.{keeps_bins}
-use Rattle.gm_script.specs.Faults.{row_fault, filter_fault}
+use Rattle.gm_script.specs.Fault.{row_fault, filter_fault}
 use Rattle.gm_script.specs.Line.{without_return, says_nothing}
 use Rattle.gm_script.specs.Order.{Asked, Order, asked, asked_by, order_of}
 use Rattle.gm_script.specs.Order as order

@@ -6,7 +6,7 @@ use Rattle.std.specs.List.{flat_map}
 use Rattle.gm_base.specs.declared.code.Code.{Code}
 use Rattle.gm_base.specs.Code.{code_name, code_phrase}
 use Rattle.gm_feature.specs.declared.feature.Feature.{Feature}
-use Rattle.gm_rows.specs.Printing.{row_text}
+use Rattle.gm_rows.specs.Printer.{row_text}
 use Rattle.gm_script.specs.declared.reply.Reply.{Reply}
 use Rattle.gm_script.specs.declared.reply.Reply.TheVariants.{Created, Stored, Deleted, Removed}
 use Rattle.gm_script.specs.declared.reply.Reply.TheVariants.{Modified, Found, Counted, Explained}

@@ -6,11 +6,11 @@ use Rattle.gm_types.specs.declared.index.IndexKind.{IndexKind}
 use Rattle.gm_types.specs.FeatureType.{IsType}
 use Rattle.gm_types.specs.Index.{has_index}
 use Rattle.gm_types.specs.Specification.{Specification}
-use Rattle.gm_types.specs.Types.{number_of_name}
+use Rattle.gm_types.specs.TypeList.{number_of_name}
 use Rattle.gm_feature.specs.declared.feature.Feature.{Feature}
 use Rattle.gm_feature.specs.declared.value.Value.{Value}
 use Rattle.gm_feature.specs.Feature.{Fits}
-use Rattle.gm_filter.specs.Suits as filter
+use Rattle.gm_filter.specs.Suitability as filter
 use Rattle.gm_filter.specs.Tree.{Tree}
 use Rattle.gm_ecql.specs.Outcome.{MayHold}
 use Rattle.gm_script.specs.Bins.{keeps_bins}

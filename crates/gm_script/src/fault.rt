@@ -1,6 +1,6 @@
 // Why a line became no command.
 ghost use Rattle.std.specs.Prelude.{◌≡◌};
-ghost use Rattle.gm_script.specs.Faults as spec;
+ghost use Rattle.gm_script.specs.Fault as spec;
 
 use gm_base::Code;
 use gm_ecql::FilterFault;

@@ -11,12 +11,12 @@ use Rattle.gm_types.specs.declared.index.IndexKind.{IndexKind}
 use Rattle.gm_types.specs.declared.index.IndexKind.TheVariants.{Id, Z2, Z3, Xz2, Xz3}
 use Rattle.gm_types.specs.Index.{enabled_indexes, has_index, attribute_indexes}
 use Rattle.gm_types.specs.Specification.{Specification}
-use Rattle.gm_filter.specs.Suits.{Suits}
+use Rattle.gm_filter.specs.Suitability.{Suits}
 use Rattle.gm_filter.specs.Tree.{Tree}
 use Rattle.gm_bounds.specs.Applicability.{does_apply}
 use Rattle.gm_strategy.specs.declared.choice.Choice.{Choice}
-use Rattle.gm_strategy.specs.Chosen.{chosen, choice, cheaper, choice_of, chosen_for, IsServed}
-use Rattle.gm_strategy.specs.Chosen.{CostsAtLeast, IsFirstOfLeast}
+use Rattle.gm_strategy.specs.Choice.{chosen, choice, cheaper, choice_of, chosen_for, IsServed}
+use Rattle.gm_strategy.specs.Choice.{CostsAtLeast, IsFirstOfLeast}
 use Rattle.gm_strategy.specs.Cost.{price_of, cost_of}
 
 where_known : (b : Bool) (price cost : ℕ) → cond b (Some price) None ≡ Some cost → b ≡ true

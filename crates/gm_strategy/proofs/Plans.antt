@@ -11,12 +11,12 @@ use Rattle.std.specs.Prelude.{nat_le, option_map}
 use Rattle.gm_types.specs.declared.index.IndexKind.{IndexKind}
 use Rattle.gm_types.specs.Specification.{Specification}
 use Rattle.gm_feature.specs.declared.feature.Feature.{Feature}
-use Rattle.gm_filter.specs.Suits.{Suits, suits}
+use Rattle.gm_filter.specs.Suitability.{Suits, suits}
 use Rattle.gm_filter.specs.declared.filter.Filter.{Filter}
 use Rattle.gm_filter.specs.Tree.{Tree, Trees, any, members_of, tree}
 use Rattle.gm_filter.specs.Truth.{is_true}
 use Rattle.gm_strategy.specs.Branches.{branches_of, trees_in}
-use Rattle.gm_strategy.specs.Chosen.{Chosen, chosen, choice_of, chosen_for, IsServed}
+use Rattle.gm_strategy.specs.Choice.{Chosen, chosen, choice_of, chosen_for, IsServed}
 use Rattle.gm_strategy.specs.Cost.{cost_of}
 use Rattle.gm_strategy.specs.Plan.{is_bounded, is_split, parts_of, plan_of}
 use Rattle.gm_strategy.proofs.Branching.{alone, branches_decide, branches_suit, some_branch}

@@ -6,7 +6,7 @@ use Rattle.gm_types.specs.declared.index.IndexKind.{IndexKind}
 use Rattle.gm_types.specs.Specification.{Specification}
 use Rattle.gm_filter.specs.Tree.{Tree}
 use Rattle.gm_strategy.specs.Branches.{branches_of}
-use Rattle.gm_strategy.specs.Chosen.{Chosen, chosen, choice_of, chosen_for}
+use Rattle.gm_strategy.specs.Choice.{Chosen, chosen, choice_of, chosen_for}
 use Rattle.gm_strategy.specs.Cost.{cost_of}
 
 -- some index need not be read as a whole

@@ -1,8 +1,8 @@
 // The index that is chosen for a filter.
 ghost use Rattle.std.specs.Prelude.{◌≡◌, IfOk, nat_lt};
-ghost use Rattle.gm_filter.specs.Suits.{Suits};
+ghost use Rattle.gm_filter.specs.Suitability.{Suits};
 ghost use Rattle.gm_filter.specs.Tree.{tree};
-ghost use Rattle.gm_strategy.specs.Chosen as spec;
+ghost use Rattle.gm_strategy.specs.Choice as spec;
 
 use crate::cost::{WHOLE, cost_of, cost_of_ids};
 use gm_base::NoMemory;

@@ -1,6 +1,6 @@
 // What it costs to read an index for a filter.
 ghost use Rattle.std.specs.Prelude.{◌≡◌, IfOk, Some, None, slice_get, if◌then◌else◌};
-ghost use Rattle.gm_filter.specs.Suits.{Suits};
+ghost use Rattle.gm_filter.specs.Suitability.{Suits};
 ghost use Rattle.gm_filter.specs.Tree.{tree};
 ghost use Rattle.gm_types.specs.declared.index.IndexKind.TheVariants.{Id, Attr};
 ghost use Rattle.gm_bounds.specs.Applicability.{does_apply, can_serve};

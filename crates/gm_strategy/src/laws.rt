@@ -5,10 +5,10 @@ ghost use Rattle.gm_types.specs.declared.index.IndexKind.{IndexKind};
 ghost use Rattle.gm_types.specs.Index.{enabled_indexes};
 ghost use Rattle.gm_types.specs.Specification.{Specification};
 ghost use Rattle.gm_feature.specs.declared.feature.Feature.{Feature};
-ghost use Rattle.gm_filter.specs.Suits.{Suits};
+ghost use Rattle.gm_filter.specs.Suitability.{Suits};
 ghost use Rattle.gm_filter.specs.Tree.{Tree};
 ghost use Rattle.gm_filter.specs.Truth.{is_true};
-ghost use Rattle.gm_strategy.specs.Chosen.{Chosen, IsServed, IsFirstOfLeast, choice_of};
+ghost use Rattle.gm_strategy.specs.Choice.{Chosen, IsServed, IsFirstOfLeast, choice_of};
 ghost use Rattle.gm_strategy.specs.Plan.{plan_of};
 
 use gm_filter::members_decide;

@@ -3,11 +3,11 @@ ghost use Rattle.std.specs.Prelude.{◌≡◌, ◌∷◌, [], true, false, map, 
 ghost use Rattle.std.specs.Prelude.{IfSome, Some, None, MatchOption};
 ghost use Rattle.std.specs.List.{list_all};
 ghost use Rattle.gm_types.specs.Index.{has_index};
-ghost use Rattle.gm_filter.specs.Suits.{Suits, suits};
+ghost use Rattle.gm_filter.specs.Suitability.{Suits, suits};
 ghost use Rattle.gm_filter.specs.Tree.{tree};
 ghost use Rattle.gm_strategy.specs.declared.fault.ChooseFault.TheVariants as fault;
 ghost use Rattle.gm_strategy.specs.Branches.{branches_of, trees_in};
-ghost use Rattle.gm_strategy.specs.Chosen.{chosen, chosen_of, chosen_for};
+ghost use Rattle.gm_strategy.specs.Choice.{chosen, chosen_of, chosen_for};
 ghost use Rattle.gm_strategy.specs.Plan.{is_bounded, is_split, parts_of, plan_of};
 
 use crate::branches::{BRANCH_LIMIT, first_branches};

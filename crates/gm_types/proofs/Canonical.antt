@@ -13,8 +13,8 @@ use Rattle.gm_types.specs.declared.datum.Datum.{Datum}
 use Rattle.gm_types.specs.Datum.{is_datum}
 use Rattle.gm_types.specs.FeatureType.{IsValid, is_default_geometry, is_geometry_kind}
 use Rattle.gm_types.specs.Kind.{is_geometry}
-use Rattle.gm_types.specs.Reading.{is_set, place_or, geometry_place, stands_on_geometry, stars_fit}
-use Rattle.gm_types.specs.Reading.{specification_of}
+use Rattle.gm_types.specs.Reader.{is_set, place_or, geometry_place, stands_on_geometry, stars_fit}
+use Rattle.gm_types.specs.Reader.{specification_of}
 use Rattle.gm_types.specs.Specification.{Specification}
 use Rattle.gm_types.specs.Spelling.{WrittenAttribute, WrittenDatum, has_blanks, may_be_written}
 use Rattle.gm_types.specs.Spelling.{Spells, canonical_attributes, needs_quotes, canonical_datum}

@@ -14,10 +14,10 @@ use Rattle.gm_types.specs.Datum.{datum_keys}
 use Rattle.gm_types.specs.FeatureType.{IsReadType, has_settings}
 use Rattle.gm_types.specs.Halt.{Reads}
 use Rattle.gm_types.specs.Parts.{cut_once}
-use Rattle.gm_types.specs.Reading.{value_if, attributes_of, stars_of, data_of, front_of, behind_of}
-use Rattle.gm_types.specs.Reading.{geometry_place, stars_fit, specification_from, specification_if}
-use Rattle.gm_types.specs.Reading.{outline_with, outline_of, is_consistent, consistent_only}
-use Rattle.gm_types.specs.Reading.{specification_of, IsReadAs}
+use Rattle.gm_types.specs.Reader.{value_if, attributes_of, stars_of, data_of, front_of, behind_of}
+use Rattle.gm_types.specs.Reader.{geometry_place, stars_fit, specification_from, specification_if}
+use Rattle.gm_types.specs.Reader.{outline_with, outline_of, is_consistent, consistent_only}
+use Rattle.gm_types.specs.Reader.{specification_of, IsReadAs}
 use Rattle.gm_types.specs.Specification.{Specification, names_of}
 use Rattle.gm_types.specs.Words.{is_name, are_distinct}
 use Rattle.gm_types.proofs.Cuts.{some_none, same_some}

@@ -10,8 +10,8 @@ use Rattle.gm_types.specs.declared.kind.Kind.{Kind}
 use Rattle.gm_types.specs.Attribute.{may_have}
 use Rattle.gm_types.specs.Halt.{Reads, Adds}
 use Rattle.gm_types.specs.Parts.{parts_of, cut_once}
-use Rattle.gm_types.specs.Reading.{value_if, read_before, read_all, option_pair, option_if}
-use Rattle.gm_types.specs.Reading.{option_with}
+use Rattle.gm_types.specs.Reader.{value_if, read_before, read_all, option_pair, option_if}
+use Rattle.gm_types.specs.Reader.{option_with}
 use Rattle.gm_types.specs.Words.{is_key, is_bare}
 use Rattle.gm_types.proofs.Cuts.{parts_none, parts_some}
 

@@ -19,15 +19,15 @@ use Rattle.gm_types.specs.Attribute.{is_option, attribute_from, option_keys}
 use Rattle.gm_types.specs.Kind.{kind_name, shape_name}
 use Rattle.gm_types.specs.Parts.{turned, ends_part, parts_from, parts_of, part_len, cut_once}
 use Rattle.gm_types.specs.Parts.{before_end, trimmed_end, trimmed}
-use Rattle.gm_types.specs.Reading.{value_if, read_before, read_all, option_pair, option_if}
-use Rattle.gm_types.specs.Reading.{option_from, option_of, options_of, attribute_if, attribute_with}
-use Rattle.gm_types.specs.Reading.{attribute_typed, attribute_behind, attribute_in, attribute_of}
-use Rattle.gm_types.specs.Reading.{front_of, behind_of, shape_named, kind_named, begins_with_star}
-use Rattle.gm_types.specs.Reading.{without_star, is_starred, quoted_value, value_of, datum_if}
-use Rattle.gm_types.specs.Reading.{datum_with, datum_from, datum_of, attributes_of, stars_of}
-use Rattle.gm_types.specs.Reading.{data_of, geometry_place, stars_fit, specification_from}
-use Rattle.gm_types.specs.Reading.{specification_if, outline_with, outline_of, is_consistent}
-use Rattle.gm_types.specs.Reading.{consistent_only, specification_of}
+use Rattle.gm_types.specs.Reader.{value_if, read_before, read_all, option_pair, option_if}
+use Rattle.gm_types.specs.Reader.{option_from, option_of, options_of, attribute_if, attribute_with}
+use Rattle.gm_types.specs.Reader.{attribute_typed, attribute_behind, attribute_in, attribute_of}
+use Rattle.gm_types.specs.Reader.{front_of, behind_of, shape_named, kind_named, begins_with_star}
+use Rattle.gm_types.specs.Reader.{without_star, is_starred, quoted_value, value_of, datum_if}
+use Rattle.gm_types.specs.Reader.{datum_with, datum_from, datum_of, attributes_of, stars_of}
+use Rattle.gm_types.specs.Reader.{data_of, geometry_place, stars_fit, specification_from}
+use Rattle.gm_types.specs.Reader.{specification_if, outline_with, outline_of, is_consistent}
+use Rattle.gm_types.specs.Reader.{consistent_only, specification_of}
 use Rattle.gm_types.specs.Specification.{Specification}
 use Rattle.gm_types.specs.Spelling.{pair_text, options_text, attribute_text, star_text, value_text}
 use Rattle.gm_types.specs.Spelling.{WrittenAttribute, written_attribute, WrittenDatum}

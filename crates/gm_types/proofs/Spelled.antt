@@ -17,15 +17,15 @@ use Rattle.gm_types.specs.Datum.{is_datum, datum_keys}
 use Rattle.gm_types.specs.FeatureType.{IsValid, is_attribute, has_settings}
 use Rattle.gm_types.specs.Kind.{kind_name}
 use Rattle.gm_types.specs.Parts.{cut_once, trimmed}
-use Rattle.gm_types.specs.Reading.{value_if, read_before, read_all, option_if, option_from}
-use Rattle.gm_types.specs.Reading.{option_of, attribute_if, attribute_with, attribute_typed}
-use Rattle.gm_types.specs.Reading.{attribute_behind, attribute_in, attribute_of, front_of}
-use Rattle.gm_types.specs.Reading.{behind_of, shape_named, kind_named, begins_with_star}
-use Rattle.gm_types.specs.Reading.{without_star, is_starred, quoted_value, value_of, datum_if}
-use Rattle.gm_types.specs.Reading.{datum_with, datum_from, datum_of, attributes_of, stars_of}
-use Rattle.gm_types.specs.Reading.{data_of, geometry_place, stars_fit, specification_from}
-use Rattle.gm_types.specs.Reading.{specification_if, outline_with, outline_of, is_consistent}
-use Rattle.gm_types.specs.Reading.{consistent_only, specification_of}
+use Rattle.gm_types.specs.Reader.{value_if, read_before, read_all, option_if, option_from}
+use Rattle.gm_types.specs.Reader.{option_of, attribute_if, attribute_with, attribute_typed}
+use Rattle.gm_types.specs.Reader.{attribute_behind, attribute_in, attribute_of, front_of}
+use Rattle.gm_types.specs.Reader.{behind_of, shape_named, kind_named, begins_with_star}
+use Rattle.gm_types.specs.Reader.{without_star, is_starred, quoted_value, value_of, datum_if}
+use Rattle.gm_types.specs.Reader.{datum_with, datum_from, datum_of, attributes_of, stars_of}
+use Rattle.gm_types.specs.Reader.{data_of, geometry_place, stars_fit, specification_from}
+use Rattle.gm_types.specs.Reader.{specification_if, outline_with, outline_of, is_consistent}
+use Rattle.gm_types.specs.Reader.{consistent_only, specification_of}
 use Rattle.gm_types.specs.Specification.{Specification, names_of}
 use Rattle.gm_types.specs.Spelling.{pair_text, options_text, attribute_text, starred_text}
 use Rattle.gm_types.specs.Spelling.{value_text, datum_text, WrittenAttribute, written_attribute}

@@ -10,7 +10,7 @@ use Rattle.std.proofs.lemmas.Bool.Decides.{nat_tests}
 use Rattle.std.proofs.lemmas.Str.{IsUtf8-from_is_utf8, is_utf8-from_IsUtf8, IsUtf8-from_ascii}
 use Rattle.gm_types.specs.declared.halt.Halt.{Halt}
 use Rattle.gm_types.specs.Halt.{Reads}
-use Rattle.gm_types.specs.Reading.{value_if}
+use Rattle.gm_types.specs.Reader.{value_if}
 use Rattle.gm_types.specs.Words.{begins_name, continues_name, continue_name, has_name_form, is_name}
 use Rattle.gm_types.specs.Words.{is_key_byte, is_key}
 

@@ -17,7 +17,7 @@ use Rattle.gm_types.specs.FeatureType.{are_index_words}
 use Rattle.gm_types.specs.Fits.{AreFits, word_fits}
 use Rattle.gm_types.specs.Index.{fits_index, is_member, listed_of, lists_word}
 use Rattle.gm_types.specs.Parts.{parts_of}
-use Rattle.gm_types.specs.Setting.{IsSetting}
+use Rattle.gm_types.specs.Settings.{IsSetting}
 use Rattle.gm_types.specs.Specification.{Specification, setting_of, period_from, period_of}
 use Rattle.gm_types.specs.Specification.{number_that, is_shard_count, is_precision, is_z2_width}
 use Rattle.gm_types.specs.Specification.{is_z3_width, shards_of, precision_of, z2_bits_of}

@@ -6,7 +6,7 @@ use Rattle.std.specs.List.{list_any}
 use Rattle.std.proofs.lemmas.Bool.{and_parts, and_from, eq-eqb}
 use Rattle.std.proofs.lemmas.List.{length-append, map-append}
 use Rattle.gm_types.specs.Specification.{Specification}
-use Rattle.gm_types.specs.Types.{AreTypes, type_names, are_numbered, number_of_name}
+use Rattle.gm_types.specs.TypeList.{AreTypes, type_names, are_numbered, number_of_name}
 use Rattle.gm_types.specs.Words.{same_text, are_distinct}
 use Rattle.gm_types.proofs.Lists.{none_found}
 use Rattle.gm_types.proofs.Noted.{distinct_push, same_sym}

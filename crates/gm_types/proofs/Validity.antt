@@ -19,14 +19,14 @@ use Rattle.gm_types.specs.FeatureType.{IsOutline, IsValid, is_attribute, is_defa
 use Rattle.gm_types.specs.FeatureType.{is_geometry_kind, same_bool, has_settings}
 use Rattle.gm_types.specs.Kind.{is_geometry}
 use Rattle.gm_types.specs.Parts.{parts_of, part_len, cut_once, trimmed}
-use Rattle.gm_types.specs.Reading.{value_if, read_before, read_all, option_pair, option_from}
-use Rattle.gm_types.specs.Reading.{option_of, options_of, attribute_if, attribute_with}
-use Rattle.gm_types.specs.Reading.{attribute_typed, attribute_behind, attribute_of, front_of}
-use Rattle.gm_types.specs.Reading.{behind_of, kind_named, without_star, quoted_value, value_of}
-use Rattle.gm_types.specs.Reading.{datum_if, datum_with, datum_from, datum_of, attributes_of}
-use Rattle.gm_types.specs.Reading.{stars_of, data_of, place_or, is_set, geometry_place}
-use Rattle.gm_types.specs.Reading.{stands_on_geometry, stars_fit, specification_from}
-use Rattle.gm_types.specs.Reading.{specification_if, outline_with, outline_of}
+use Rattle.gm_types.specs.Reader.{value_if, read_before, read_all, option_pair, option_from}
+use Rattle.gm_types.specs.Reader.{option_of, options_of, attribute_if, attribute_with}
+use Rattle.gm_types.specs.Reader.{attribute_typed, attribute_behind, attribute_of, front_of}
+use Rattle.gm_types.specs.Reader.{behind_of, kind_named, without_star, quoted_value, value_of}
+use Rattle.gm_types.specs.Reader.{datum_if, datum_with, datum_from, datum_of, attributes_of}
+use Rattle.gm_types.specs.Reader.{stars_of, data_of, place_or, is_set, geometry_place}
+use Rattle.gm_types.specs.Reader.{stands_on_geometry, stars_fit, specification_from}
+use Rattle.gm_types.specs.Reader.{specification_if, outline_with, outline_of}
 use Rattle.gm_types.specs.Specification.{Specification, kind_at, names_of}
 use Rattle.gm_types.specs.Words.{is_name, is_key, is_bare, is_bare_byte, is_bare_form, is_blank}
 use Rattle.gm_types.specs.Words.{is_mark, is_quotable, has_no_quote, are_distinct}

@@ -12,9 +12,9 @@ pub mod Kept
 pub mod Kind
 pub mod Outline
 pub mod Parts
-pub mod Reading
-pub mod Setting
+pub mod Reader
+pub mod Settings
 pub mod Specification
 pub mod Spelling
-pub mod Types
+pub mod TypeList
 pub mod Words

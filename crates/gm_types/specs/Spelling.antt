@@ -7,7 +7,7 @@ use Rattle.gm_types.specs.declared.attribute.AttributeOption.{AttributeOption}
 use Rattle.gm_types.specs.declared.datum.Datum.{Datum}
 use Rattle.gm_types.specs.FeatureType.{IsValid}
 use Rattle.gm_types.specs.Kind.{kind_name}
-use Rattle.gm_types.specs.Reading.{geometry_place, stars_fit}
+use Rattle.gm_types.specs.Reader.{geometry_place, stars_fit}
 use Rattle.gm_types.specs.Specification.{Specification}
 use Rattle.gm_types.specs.Words.{is_blank, is_bare, is_bare_form}
 

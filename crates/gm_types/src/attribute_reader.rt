@@ -6,7 +6,7 @@ ghost use Rattle.gm_types.specs.Attribute.{is_index_value, is_indexed, may_have}
 ghost use Rattle.gm_types.specs.Kind.{is_geometry};
 ghost use Rattle.gm_types.specs.Halt.{Reads, Adds};
 ghost use Rattle.gm_types.specs.Parts.{parts_of};
-ghost use Rattle.gm_types.specs.Reading as spec;
+ghost use Rattle.gm_types.specs.Reader as spec;
 ghost use Rattle.gm_types.specs.Words.{same_text};
 
 use crate::distinct::have_distinct_keys;
@@ -69,7 +69,7 @@ fn option_with(alloc: Global, kind: Kind, key: &[u8], value: &[u8]) -> Result<At
 }
 
 // `key=value`, as an attribute of a kind may have it.
-#[tactic(auto, unfolding(crate::specs::Reading::option_of))]
+#[tactic(auto, unfolding(crate::specs::Reader::option_of))]
 fn read_option(alloc: Global, kind: Kind, text: &[u8]) -> Result<AttributeOption, Halt>
     ensures { Reads (spec.option_of kind text.now) result }
 {
@@ -235,7 +235,7 @@ fn without_star(text: &[u8]) -> &[u8]
 }
 
 // An attribute between two commas.
-#[tactic(auto, unfolding(crate::specs::Reading::attribute_of))]
+#[tactic(auto, unfolding(crate::specs::Reader::attribute_of))]
 fn read_attribute(alloc: Global, part: &[u8]) -> Result<Attribute, Halt>
     ensures { Reads (spec.attribute_of part.now) result }
 {
@@ -282,7 +282,7 @@ pub(crate) fn read_attributes(alloc: Global, text: &[u8]) -> Result<AttributeLis
     }
 }
 
-#[tactic(auto, unfolding(crate::specs::Reading::is_starred))]
+#[tactic(auto, unfolding(crate::specs::Reader::is_starred))]
 fn is_starred(part: &[u8]) -> bool
     ensures { result ≡ spec.is_starred part.now }
 {

@@ -1,7 +1,7 @@
 // User data, read from a specification.
 ghost use Rattle.std.specs.Prelude.{◌≡◌, Some};
 ghost use Rattle.gm_types.specs.Halt.{Reads, Adds};
-ghost use Rattle.gm_types.specs.Reading as spec;
+ghost use Rattle.gm_types.specs.Reader as spec;
 
 use crate::halt::Halt;
 use crate::parts::{cut_once, trimmed};
@@ -25,7 +25,7 @@ fn quoted_text(alloc: Global, rest: &[u8]) -> Result<Text, Halt>
 }
 
 // A value, bare or in quotes.
-#[tactic(auto, unfolding(crate::specs::Reading::value_of))]
+#[tactic(auto, unfolding(crate::specs::Reader::value_of))]
 fn read_value(alloc: Global, text: &[u8]) -> Result<Text, Halt>
     ensures { Reads (spec.value_of text.now) result }
 {
@@ -53,7 +53,7 @@ fn datum_with(alloc: Global, key: &[u8], value: &[u8]) -> Result<Datum, Halt>
 }
 
 // A user datum between two commas.
-#[tactic(auto, unfolding(crate::specs::Reading::datum_of))]
+#[tactic(auto, unfolding(crate::specs::Reader::datum_of))]
 fn read_datum(alloc: Global, part: &[u8]) -> Result<Datum, Halt>
     ensures { Reads (spec.datum_of part.now) result }
 {

@@ -1,6 +1,6 @@
 // Kinds of attributes.
 ghost use Rattle.std.specs.Prelude.{◌≡◌};
-ghost use Rattle.gm_types.specs.Reading as reading;
+ghost use Rattle.gm_types.specs.Reader as reading;
 
 use crate::words::is_word;
 
@@ -28,7 +28,7 @@ pub enum Kind {
     Geo(GeoKind),
 }
 
-#[tactic(auto, unfolding(crate::specs::Reading::shape_named))]
+#[tactic(auto, unfolding(crate::specs::Reader::shape_named))]
 fn shape_named(text: &[u8]) -> Option<GeoKind>
     ensures { result ≡ reading.shape_named text.now }
 {
@@ -57,7 +57,7 @@ fn shape_named(text: &[u8]) -> Option<GeoKind>
 }
 
 /// The kind with a name.
-#[tactic(auto, unfolding(crate::specs::Reading::kind_named))]
+#[tactic(auto, unfolding(crate::specs::Reader::kind_named))]
 pub(crate) fn kind_named(text: &[u8]) -> Option<Kind>
     ensures { result ≡ reading.kind_named text.now }
 {

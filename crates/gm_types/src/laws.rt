@@ -1,7 +1,7 @@
 // What holds of every feature type.
 ghost use Rattle.std.specs.Prelude.{◌≡◌, ℕ, List, Some};
 ghost use Rattle.gm_types.specs.FeatureType.{IsType, IsReadType, HoldsTogether};
-ghost use Rattle.gm_types.specs.Reading.{specification_of};
+ghost use Rattle.gm_types.specs.Reader.{specification_of};
 ghost use Rattle.gm_types.specs.Specification.{Specification};
 ghost use Rattle.gm_types.specs.Spelling.{Spells, canonical_text};
 

@@ -7,7 +7,7 @@ ghost use Rattle.gm_types.specs.Facts.{AreFactsOf};
 ghost use Rattle.gm_types.specs.FeatureType.{IsOutline, IsValid};
 ghost use Rattle.gm_types.specs.Kind as kinds;
 ghost use Rattle.gm_types.specs.Outline.{outlined};
-ghost use Rattle.gm_types.specs.Reading as spec;
+ghost use Rattle.gm_types.specs.Reader as spec;
 ghost use Rattle.gm_types.specs.Specification.{names_of};
 ghost use Rattle.gm_types.specs.Words.{are_distinct, is_name};
 
@@ -124,7 +124,7 @@ fn outline_with(
     }
 }
 
-#[tactic(auto, unfolding(crate::specs::Reading::outline_of))]
+#[tactic(auto, unfolding(crate::specs::Reader::outline_of))]
 fn read_outline(alloc: Global, name: &[u8], number: u16, text: &[u8]) -> Result<Outline, Halt>
     requires { is_name name.now ≡ true }
     ensures { OutlineReads (spec.outline_of name.now number text.now) result }

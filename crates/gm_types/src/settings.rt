@@ -5,7 +5,7 @@ ghost use Rattle.std.specs.List.{list_all};
 ghost use Rattle.std.specs.Option.{option_copied};
 ghost use Rattle.gm_calendar.specs.declared.period.Period.TheVariants.{Week};
 ghost use Rattle.gm_types.specs.Outline.{outlined};
-ghost use Rattle.gm_types.specs.Setting.{IsSetting, capped};
+ghost use Rattle.gm_types.specs.Settings.{IsSetting, capped};
 ghost use Rattle.gm_types.specs.Specification as spec;
 ghost use Rattle.gm_types.specs.Words.{same_text};
 

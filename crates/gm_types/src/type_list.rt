@@ -2,7 +2,7 @@
 ghost use Rattle.std.specs.Prelude.{◌≡◌, ◌<◌, ◌++◌, ◌∷◌, [], ◌↔◌, None, length, position};
 ghost use Rattle.std.specs.Prelude.{slice_get, IsTrue, IfSome, OnOk, OnErr};
 ghost use Rattle.std.specs.Option.{option_copied};
-ghost use Rattle.gm_types.specs.Types.{AreTypes, number_of_name};
+ghost use Rattle.gm_types.specs.TypeList.{AreTypes, number_of_name};
 ghost use Rattle.gm_types.specs.Words.{same_text};
 
 use crate::FeatureType;
@@ -19,7 +19,7 @@ pub struct TypeList {
 impl Model for TypeList {
     ghost use Rattle.std.specs.Prelude.{List};
     ghost use Rattle.gm_types.specs.Specification.{Specification};
-    ghost use Rattle.gm_types.specs.Types.{AreTypes};
+    ghost use Rattle.gm_types.specs.TypeList.{AreTypes};
 
     ghost Value = { List Specification };
 

@@ -3,7 +3,7 @@ ghost use Rattle.std.specs.Prelude.{◌≡◌, ◌&&◌};
 ghost use Rattle.std.specs.List.{list_all};
 ghost use Rattle.std.specs.Str.{is_utf8};
 ghost use Rattle.gm_types.specs.Halt.{Reads};
-ghost use Rattle.gm_types.specs.Reading.{value_if};
+ghost use Rattle.gm_types.specs.Reader.{value_if};
 ghost use Rattle.gm_types.specs.Words as spec;
 
 use crate::halt::Halt;

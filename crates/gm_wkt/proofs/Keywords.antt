@@ -15,7 +15,7 @@ use Rattle.gm_wkt.specs.declared.keyword.Keyword.TheVariants as keyword
 use Rattle.gm_wkt.specs.Grammar.{is_blank, AreBlanks, keyword_text, keyword_of, SpellsLone}
 use Rattle.gm_wkt.specs.Grammar.{SpellsLine, SpellsRings, SpellsLoose, SpellsPosition, SpellsList}
 use Rattle.gm_wkt.specs.Grammar.{SpellsBody, SpellsText}
-use Rattle.gm_wkt.specs.Reading.{skip_blanks, Starts, Stops}
+use Rattle.gm_wkt.specs.Reader.{skip_blanks, Starts, Stops}
 use Rattle.gm_wkt.specs.Words.{letter_run, is_named, keyword_named}
 use Rattle.gm_wkt.proofs.Scans.{take_run, drop_run, take_drop, skip_over, skipped}
 

@@ -3,8 +3,8 @@ use Rattle.std.proofs.Common.{◌≡◌, ℕ, Bool, true, false, ◌==◌, cond,
 use Rattle.std.proofs.Common.{None, refl, sym, ap, ◌∙◌, append_assoc, append-nil, eqb-true}
 use Rattle.gm_geom.specs.Number.{is_number_byte}
 use Rattle.gm_wkt.specs.Grammar.{SpellsMember, SpellsMembers, SpellsList}
-use Rattle.gm_wkt.specs.Reading.{skip_blanks, separator, separator_first, separator_at, Starts}
-use Rattle.gm_wkt.specs.Reading.{Ends, Takes, UpTo}
+use Rattle.gm_wkt.specs.Reader.{skip_blanks, separator, separator_first, separator_at, Starts}
+use Rattle.gm_wkt.specs.Reader.{Ends, Takes, UpTo}
 use Rattle.gm_wkt.proofs.Scans.{skip_over, skipped, ends_behind}
 
 -- members in brackets stand at the front of a text, and the other way round

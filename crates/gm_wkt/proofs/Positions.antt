@@ -8,8 +8,8 @@ use Rattle.std.specs.Option.{option_map, option_and_then}
 use Rattle.gm_geom.specs.declared.point.Point.{Point}
 use Rattle.gm_geom.specs.Number.{is_number_byte}
 use Rattle.gm_wkt.specs.Grammar.{is_blank, AreBlanks, coordinate_of, SpellsNumber, SpellsPosition}
-use Rattle.gm_wkt.specs.Reading.{skip_blanks, number_run, number_at, begins_blank, second_at}
-use Rattle.gm_wkt.specs.Reading.{position_at, Starts, Ends, Takes}
+use Rattle.gm_wkt.specs.Reader.{skip_blanks, number_run, number_at, begins_blank, second_at}
+use Rattle.gm_wkt.specs.Reader.{position_at, Starts, Ends, Takes}
 use Rattle.gm_wkt.proofs.Scans.{take_run, drop_run, run_passes, take_drop, skip_over, blank_gap}
 use Rattle.gm_wkt.proofs.Scans.{number_starts, blank_ends}
 

@@ -18,8 +18,8 @@ use Rattle.gm_geom.specs.Validity.{has_one_point, fault_of}
 use Rattle.gm_wkt.specs.Grammar.{AreBlanks, coordinate_from, SpellsNumber, SpellsPosition}
 use Rattle.gm_wkt.specs.Grammar.{SpellsMembers, SpellsList, SpellsLine, SpellsRings, SpellsLone}
 use Rattle.gm_wkt.specs.Grammar.{SpellsLoose, SpellsBody, SpellsText, keyword_text, keyword_of}
-use Rattle.gm_wkt.specs.Printing.{position_text, members_text, list_text, line_text, rings_text}
-use Rattle.gm_wkt.specs.Printing.{lone_text, body_text, printed, FitsPoint, is_point_byte}
+use Rattle.gm_wkt.specs.Printer.{position_text, members_text, list_text, line_text, rings_text}
+use Rattle.gm_wkt.specs.Printer.{lone_text, body_text, printed, FitsPoint, is_point_byte}
 use mir.Syntax.{w32}
 use mir.Val.{SFits}
 

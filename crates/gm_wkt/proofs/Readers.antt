@@ -5,8 +5,8 @@ use Rattle.std.specs.Result.{IfOk}
 use Rattle.gm_geom.specs.declared.point.Point.{Point}
 use Rattle.gm_wkt.specs.declared.halt.Halt.{Halt}
 use Rattle.gm_wkt.specs.Grammar.{SpellsMember, SpellsList}
-use Rattle.gm_wkt.specs.Reading.{skip_blanks, behind, point_at, SpellsPoint, separator}
-use Rattle.gm_wkt.specs.Reading.{separator_at, Starts, Ends, Takes, UpTo}
+use Rattle.gm_wkt.specs.Reader.{skip_blanks, behind, point_at, SpellsPoint, separator}
+use Rattle.gm_wkt.specs.Reader.{separator_at, Starts, Ends, Takes, UpTo}
 use Rattle.gm_wkt.proofs.Points.{point_only, behind_some}
 use Rattle.gm_wkt.proofs.Members.{list_at_front, list_found, member_item}
 

@@ -6,8 +6,8 @@ use Rattle.gm_geom.specs.declared.geometry.Geometry.{Geometry}
 use Rattle.gm_geom.specs.declared.geometry.Geometry.TheVariants as geo
 use Rattle.gm_wkt.specs.Grammar.{SpellsMember, SpellsList, SpellsPosition, SpellsLine, SpellsRings}
 use Rattle.gm_wkt.specs.Grammar.{SpellsLoose, SpellsBody, SpellsText, keyword_of}
-use Rattle.gm_wkt.specs.Reading.{skip_blanks, separator, separator_at, point_at, SpellsPoint}
-use Rattle.gm_wkt.specs.Reading.{Starts, Ends, UpTo}
+use Rattle.gm_wkt.specs.Reader.{skip_blanks, separator, separator_at, point_at, SpellsPoint}
+use Rattle.gm_wkt.specs.Reader.{Starts, Ends, UpTo}
 use Rattle.gm_wkt.specs.Starting.{point_starts, list_starts}
 use Rattle.gm_wkt.specs.Words.{letter_run}
 use Rattle.gm_wkt.proofs.Points.{point_only}

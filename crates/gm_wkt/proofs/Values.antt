@@ -11,8 +11,8 @@ use Rattle.gm_wkt.specs.declared.keyword.Keyword.{Keyword}
 use Rattle.gm_wkt.specs.declared.keyword.Keyword.TheVariants as keyword
 use Rattle.gm_wkt.specs.Grammar.{SpellsMember, SpellsList, SpellsPosition, SpellsLone, SpellsLine}
 use Rattle.gm_wkt.specs.Grammar.{SpellsRings, SpellsLoose, SpellsBody, SpellsText, keyword_of}
-use Rattle.gm_wkt.specs.Reading.{skip_blanks, behind, separator_at, point_at, lone_at, SpellsPoint}
-use Rattle.gm_wkt.specs.Reading.{Starts, Ends, Takes, UpTo}
+use Rattle.gm_wkt.specs.Reader.{skip_blanks, behind, separator_at, point_at, lone_at, SpellsPoint}
+use Rattle.gm_wkt.specs.Reader.{Starts, Ends, Takes, UpTo}
 use Rattle.gm_wkt.specs.Starting.{point_starts, list_starts}
 use Rattle.gm_wkt.specs.declared.fault.WktFault.{WktFault}
 use Rattle.gm_wkt.specs.declared.fault.WktFault.TheVariants as fault

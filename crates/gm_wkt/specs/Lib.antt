@@ -1,7 +1,7 @@
 pub mod Answer
 pub mod Grammar
-pub mod Printing
-pub mod Reading
+pub mod Printer
+pub mod Reader
 pub mod Starting
 pub mod Value
 pub mod Words

@@ -8,7 +8,7 @@ ghost use Rattle.gm_geom.specs.declared.point.Point.{Point};
 ghost use Rattle.gm_geom.specs.Validity.{fault_of};
 ghost use Rattle.gm_wkt.specs.Answer.{answer_of};
 ghost use Rattle.gm_wkt.specs.Grammar.{SpellsText, line_feed};
-ghost use Rattle.gm_wkt.specs.Printing.{printed, is_point_byte};
+ghost use Rattle.gm_wkt.specs.Printer.{printed, is_point_byte};
 ghost use Rattle.gm_wkt.specs.Value.{geometry_of};
 
 use gm_geom::{has_number_bytes, reads_back};

@@ -3,7 +3,7 @@ ghost use Rattle.std.specs.Prelude.{◌≡◌, ◌≤◌, ◌<◌, [], ◌∷◌
 ghost use Rattle.std.specs.List.{prefix_len};
 ghost use Rattle.gm_geom.specs.Number as number;
 ghost use Rattle.gm_wkt.specs.Grammar as grammar;
-ghost use Rattle.gm_wkt.specs.Reading as spec;
+ghost use Rattle.gm_wkt.specs.Reader as spec;
 
 use gm_geom::{NumberFault, Point, read_fixed};
 

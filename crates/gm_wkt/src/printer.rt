@@ -5,9 +5,9 @@ ghost use Rattle.gm_geom.specs.declared.geometry.Geometry.TheVariants as geo;
 ghost use Rattle.gm_geom.specs.Validity.{fault_of};
 ghost use Rattle.gm_wkt.specs.Grammar as grammar;
 ghost use Rattle.gm_wkt.specs.Grammar.{SpellsText};
-ghost use Rattle.gm_wkt.specs.Printing as spec;
-ghost use Rattle.gm_wkt.specs.Printing.{position_text, lone_text, line_text};
-ghost use Rattle.gm_wkt.specs.Printing.{list_text, printed, body_text};
+ghost use Rattle.gm_wkt.specs.Printer as spec;
+ghost use Rattle.gm_wkt.specs.Printer.{position_text, lone_text, line_text};
+ghost use Rattle.gm_wkt.specs.Printer.{list_text, printed, body_text};
 
 use crate::keyword::Keyword;
 use gm_base::{Items, NoMemory, Text};

@@ -4,7 +4,7 @@ ghost use Rattle.gm_geom.specs.declared.geometry.Geometry.{Geometry};
 ghost use Rattle.gm_wkt.specs.Answer.{IsAnswer, IsReadAs, IsUnlessMemory, answer_of};
 ghost use Rattle.gm_wkt.specs.Grammar as grammar;
 ghost use Rattle.gm_wkt.specs.Grammar.{SpellsText, SpellsBody, SpellsLone};
-ghost use Rattle.gm_wkt.specs.Reading.{OnlyMemory};
+ghost use Rattle.gm_wkt.specs.Reader.{OnlyMemory};
 
 use crate::WktFault;
 use crate::halt::Halt;

@@ -1,10 +1,10 @@
 // Positions and lists of them, read in one pass.
 ghost use Rattle.std.specs.Prelude.{◌≡◌, ◌++◌, ◌∷◌, List, ℕ, Bool, option_map, IfOk, MatchResult};
 ghost use Rattle.gm_wkt.specs.Grammar.{SpellsMember, SpellsList};
-ghost use Rattle.gm_wkt.specs.Reading as spec;
+ghost use Rattle.gm_wkt.specs.Reader as spec;
 ghost use Rattle.gm_wkt.specs.Starting.{point_starts, list_starts};
-ghost use Rattle.gm_wkt.specs.Reading.{Takes, Ends, Starts, UpTo, OnlyMemory};
-ghost use Rattle.gm_wkt.specs.Reading.{SpellsPoint, separator};
+ghost use Rattle.gm_wkt.specs.Reader.{Takes, Ends, Starts, UpTo, OnlyMemory};
+ghost use Rattle.gm_wkt.specs.Reader.{SpellsPoint, separator};
 
 use crate::halt::Halt;
 use crate::position::{behind, point_at, skip_blanks};

@@ -4,9 +4,9 @@ ghost use Rattle.gm_base.specs.Counter.{capped_sum};
 ghost use Rattle.gm_engine_rows.specs.State.{State};
 ghost use Rattle.gm_engine_rows.specs.Rows.{rows_of};
 ghost use Rattle.gm_filter.specs.Tree.{tree};
-ghost use Rattle.gm_strategy.specs.Chosen.{IsServed, chosen_of};
+ghost use Rattle.gm_strategy.specs.Choice.{IsServed, chosen_of};
 ghost use Rattle.gm_program.specs.Collecting.{Counts};
-ghost use Rattle.gm_program.specs.Finding.{tests_of};
+ghost use Rattle.gm_program.specs.Found.{tests_of};
 ghost use Rattle.gm_program.specs.Question.{rows_read, rows_examined};
 ghost use Rattle.gm_program.specs.Store.{IsTypeOf, HasType};
 

@@ -4,7 +4,7 @@ ghost use Rattle.gm_engine_rows.specs.State.{State};
 ghost use Rattle.gm_script.specs.Order as order;
 ghost use Rattle.gm_script.specs.Suits.{Suits};
 ghost use Rattle.gm_table.specs.Sorted.{Rows};
-ghost use Rattle.gm_program.specs.Serving.{Executes};
+ghost use Rattle.gm_program.specs.Serve.{Executes};
 ghost use Rattle.gm_program.specs.Step.{create_step};
 ghost use Rattle.gm_program.specs.Store.{Holds};
 

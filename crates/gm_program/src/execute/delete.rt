@@ -3,7 +3,7 @@ ghost use Rattle.std.specs.Prelude.{◌≡◌, ◌<◌, length, Some, IfOk};
 ghost use Rattle.gm_engine_rows.specs.State.{State, type_at};
 ghost use Rattle.gm_script.specs.Order as order;
 ghost use Rattle.gm_script.specs.Suits.{Suits};
-ghost use Rattle.gm_program.specs.Serving.{Executes};
+ghost use Rattle.gm_program.specs.Serve.{Executes};
 ghost use Rattle.gm_program.specs.Step.{delete_step};
 ghost use Rattle.gm_program.specs.Store.{Types, Holds, HasState};
 

@@ -2,7 +2,7 @@
 ghost use Rattle.std.specs.Prelude.{◌≡◌, ◌<◌, ◌^◌, ℕ, length, IfOk};
 ghost use Rattle.gm_engine_rows.specs.State.{State};
 ghost use Rattle.gm_table.specs.Sorted.{Rows};
-ghost use Rattle.gm_program.specs.Serving.{Executes};
+ghost use Rattle.gm_program.specs.Serve.{Executes};
 ghost use Rattle.gm_program.specs.Step.{describe_step};
 ghost use Rattle.gm_program.specs.Store.{Holds};
 

@@ -3,10 +3,10 @@ ghost use Rattle.std.specs.Prelude.{◌≡◌, ◌≤◌, ◌<◌, ◌^◌, ◌+
 ghost use Rattle.gm_engine_rows.specs.State.{State};
 ghost use Rattle.gm_script.specs.Order.{asked_by};
 ghost use Rattle.gm_script.specs.Suits.{IsQuestion};
-ghost use Rattle.gm_strategy.specs.Chosen.{IsServed, chosen_of};
+ghost use Rattle.gm_strategy.specs.Choice.{IsServed, chosen_of};
 ghost use Rattle.gm_table.specs.Sorted.{Rows};
 ghost use Rattle.gm_program.specs.Question.{part_lines, plan_lines as lines_of_plan};
-ghost use Rattle.gm_program.specs.Serving.{Executes};
+ghost use Rattle.gm_program.specs.Serve.{Executes};
 ghost use Rattle.gm_program.specs.Step.{explain_step};
 ghost use Rattle.gm_program.specs.Store.{Holds};
 

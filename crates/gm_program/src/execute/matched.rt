@@ -1,11 +1,11 @@
 // The features of a filter, for commands that act on them.
 ghost use Rattle.std.specs.Prelude.{◌≡◌, IfOk};
 ghost use Rattle.gm_engine_rows.specs.State.{State};
-ghost use Rattle.gm_filter.specs.Suits.{Suits as SuitsType};
+ghost use Rattle.gm_filter.specs.Suitability.{Suits as SuitsType};
 ghost use Rattle.gm_filter.specs.Tree.{tree};
 ghost use Rattle.gm_script.specs.Order.{asked_by};
 ghost use Rattle.gm_script.specs.Suits.{IsHint};
-ghost use Rattle.gm_program.specs.Matching.{IsMatched};
+ghost use Rattle.gm_program.specs.Matched.{IsMatched};
 ghost use Rattle.gm_program.specs.Step.{plain};
 ghost use Rattle.gm_program.specs.Store.{IsTypeOf, HasType};
 

@@ -4,14 +4,14 @@ ghost use Rattle.gm_engine_rows.specs.Exchange.{IsExchange, old_keys};
 ghost use Rattle.gm_engine_rows.specs.State.{State, type_at};
 ghost use Rattle.gm_ecql.specs.Outcome.{MayHold};
 ghost use Rattle.gm_feature.specs.Feature.{Fits};
-ghost use Rattle.gm_filter.specs.Suits.{Suits as SuitsType};
+ghost use Rattle.gm_filter.specs.Suitability.{Suits as SuitsType};
 ghost use Rattle.gm_filter.specs.Tree.{tree};
 ghost use Rattle.gm_script.specs.Bins.{keeps_bins};
 ghost use Rattle.gm_script.specs.Order as order;
 ghost use Rattle.gm_script.specs.Order.{asked_by};
 ghost use Rattle.gm_script.specs.Suits.{Suits};
-ghost use Rattle.gm_program.specs.Matching.{MayTake};
-ghost use Rattle.gm_program.specs.Serving.{Executes};
+ghost use Rattle.gm_program.specs.Matched.{MayTake};
+ghost use Rattle.gm_program.specs.Serve.{Executes};
 ghost use Rattle.gm_program.specs.Step.{given, modify_step, plain, with_value};
 ghost use Rattle.gm_program.specs.Store.{Types, Holds, HasState, HasType};
 

@@ -1,10 +1,10 @@
 // Whether and how a question can be answered.
 ghost use Rattle.std.specs.Prelude.{◌≡◌, IfOk, IfSome, true};
-ghost use Rattle.gm_filter.specs.Suits.{Suits as SuitsType};
+ghost use Rattle.gm_filter.specs.Suitability.{Suits as SuitsType};
 ghost use Rattle.gm_filter.specs.Tree.{tree};
 ghost use Rattle.gm_types.specs.Index.{has_index};
 ghost use Rattle.gm_script.specs.Order.{asked_by};
-ghost use Rattle.gm_program.specs.Planning.{IsPlanned};
+ghost use Rattle.gm_program.specs.Plan.{IsPlanned};
 
 use gm_base::{Code, NoMemory};
 use gm_script::Ask;

@@ -1,12 +1,12 @@
 // `remove`
 ghost use Rattle.std.specs.Prelude.{◌≡◌, map, Some, None, IfOk};
 ghost use Rattle.gm_engine_rows.specs.State.{State, type_at};
-ghost use Rattle.gm_filter.specs.Suits.{Suits as SuitsType};
+ghost use Rattle.gm_filter.specs.Suitability.{Suits as SuitsType};
 ghost use Rattle.gm_filter.specs.Tree.{tree};
 ghost use Rattle.gm_script.specs.Order as order;
 ghost use Rattle.gm_script.specs.Order.{asked_by};
 ghost use Rattle.gm_script.specs.Suits.{Suits};
-ghost use Rattle.gm_program.specs.Serving.{Executes};
+ghost use Rattle.gm_program.specs.Serve.{Executes};
 ghost use Rattle.gm_program.specs.Step.{plain, gone, remove_step};
 ghost use Rattle.gm_program.specs.Store.{Types, Holds, HasState, HasType};
 

@@ -2,7 +2,7 @@
 ghost use Rattle.std.specs.Prelude.{◌≤◌, IfOk};
 ghost use Rattle.gm_table.specs.Sorted.{Rows};
 ghost use Rattle.gm_engine_rows.specs.State.{State};
-ghost use Rattle.gm_strategy.specs.Chosen.{IsServed, chosen_of};
+ghost use Rattle.gm_strategy.specs.Choice.{IsServed, chosen_of};
 ghost use Rattle.gm_program.specs.Spans.{AreReadFor};
 ghost use Rattle.gm_program.specs.Store.{IsTypeOf};
 

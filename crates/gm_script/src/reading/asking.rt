@@ -1,7 +1,7 @@
 // `.. NAME [index=I] [target=T] FILTER`
 ghost use Rattle.std.specs.Prelude.{◌≡◌, option_map, IfOk, IfSome};
 ghost use Rattle.gm_ecql.specs.Outcome.{filter_outcome};
-ghost use Rattle.gm_filter.specs.Suits as filters;
+ghost use Rattle.gm_filter.specs.Suitability as filters;
 ghost use Rattle.gm_filter.specs.Tree.{tree};
 ghost use Rattle.gm_script.specs.Ask as spec;
 ghost use Rattle.gm_script.specs.Order.{asked_by};

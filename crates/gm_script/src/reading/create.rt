@@ -1,6 +1,6 @@
 // `create NAME SPEC`
 ghost use Rattle.std.specs.Prelude.{◌≡◌, ◌≤◌, length, None, IfOk};
-ghost use Rattle.gm_types.specs.Types.{number_of_name};
+ghost use Rattle.gm_types.specs.TypeList.{number_of_name};
 ghost use Rattle.gm_script.specs.Order.{order_of};
 ghost use Rattle.gm_script.specs.Reading.{Reads, create_of, create_type};
 ghost use Rattle.gm_script.specs.Suits.{Suits};

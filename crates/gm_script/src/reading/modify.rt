@@ -1,7 +1,7 @@
 // `modify NAME ATTR LITERAL WHERE FILTER`
 ghost use Rattle.std.specs.Prelude.{IfOk};
 ghost use Rattle.gm_ecql.specs.Outcome.{MayHold, change_outcome, meant};
-ghost use Rattle.gm_filter.specs.Suits as filter;
+ghost use Rattle.gm_filter.specs.Suitability as filter;
 ghost use Rattle.gm_filter.specs.Tree.{tree};
 ghost use Rattle.gm_script.specs.Order.{order_of};
 ghost use Rattle.gm_script.specs.Reading.{Reads, modify_of, modify_read, modify_with};

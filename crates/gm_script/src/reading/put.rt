@@ -1,6 +1,6 @@
 // `put NAME ROW`
 ghost use Rattle.std.specs.Prelude.{IfOk};
-ghost use Rattle.gm_rows.specs.Reading.{row_of};
+ghost use Rattle.gm_rows.specs.Reader.{row_of};
 ghost use Rattle.gm_script.specs.Order.{order_of};
 ghost use Rattle.gm_script.specs.Reading.{Reads, put_of, put_read};
 ghost use Rattle.gm_script.specs.Suits.{Suits, SuitsAt};

@@ -1,6 +1,6 @@
 use Rattle.std.proofs.Common.{◌≡◌, ◌+◌, drop}
 use Rattle.std.specs.List.{prefix_len}
-use Rattle.gm_ecql.specs.Tokens.{is_word_byte}
+use Rattle.gm_ecql.specs.Token.{is_word_byte}
 use Rattle.gm_ecql.proofs.bytes.word_count.Given as goal
 
 abbrev pub invariant-bytes : goal.invariant-bytes

@@ -1,5 +1,5 @@
 use Rattle.std.proofs.Common.{◌≡◌, ◌≤◌, ◌+◌, drop, option_map}
-use Rattle.gm_ecql.specs.Tokens.{seen_all}
+use Rattle.gm_ecql.specs.Token.{seen_all}
 use Rattle.gm_ecql.specs.Geometry.{group_count}
 use Rattle.gm_ecql.proofs.geometry.group_count.Given as goal
 

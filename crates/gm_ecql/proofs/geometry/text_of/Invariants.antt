@@ -1,6 +1,6 @@
 use Rattle.std.proofs.Common.{◌≡◌, ◌++◌, drop}
 use Rattle.std.specs.String.{string_bytes}
-use Rattle.gm_ecql.specs.Tokens.{seen_all}
+use Rattle.gm_ecql.specs.Token.{seen_all}
 use Rattle.gm_ecql.specs.Geometry.{text_behind, text_of}
 use Rattle.gm_ecql.proofs.geometry.text_of.Given as goal
 

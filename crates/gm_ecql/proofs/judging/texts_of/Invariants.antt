@@ -1,5 +1,5 @@
 use Rattle.std.proofs.Common.{◌≡◌, take, map}
-use Rattle.gm_ecql.specs.Tokens.{undoubled}
+use Rattle.gm_ecql.specs.Token.{undoubled}
 use Rattle.gm_ecql.proofs.judging.texts_of.Given as goal
 
 abbrev pub invariant-texts : goal.invariant-texts

@@ -1,4 +1,4 @@
-use Rattle.gm_ecql.specs.Printing.{printed}
+use Rattle.gm_ecql.specs.Printer.{printed}
 use Rattle.gm_ecql.proofs.laws.printed_filters_are_read.Goals as goal
 
 pub returns : goal.returns

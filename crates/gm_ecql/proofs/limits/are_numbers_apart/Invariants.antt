@@ -1,5 +1,5 @@
 use Rattle.std.proofs.Common.{◌≡◌, map, drop}
-use Rattle.gm_ecql.specs.Tokens.{seen_spaced}
+use Rattle.gm_ecql.specs.Token.{seen_spaced}
 use Rattle.gm_ecql.specs.Limits.{are_apart_behind, are_numbers_apart}
 use Rattle.gm_ecql.proofs.limits.are_numbers_apart.Given as goal
 

@@ -1,6 +1,6 @@
 use Rattle.std.proofs.Common.{◌≡◌, max, arith}
 use Rattle.gm_ecql.specs.Limits.{deepest}
-use Rattle.gm_ecql.specs.Tokens.{seen, seen_all}
+use Rattle.gm_ecql.specs.Token.{seen, seen_all}
 use Rattle.gm_ecql.proofs.Depths.{still_few, deeper}
 use Rattle.gm_ecql.proofs.limits.deepest.Goals as goal
 use Rattle.gm_ecql.proofs.limits.deepest.Goals.{then-most-depth, else-most-depth}

@@ -1,5 +1,5 @@
 use Rattle.std.proofs.Common.{◌≡◌, ◌≤◌, ◌+◌, drop}
-use Rattle.gm_ecql.specs.Tokens.{seen_all}
+use Rattle.gm_ecql.specs.Token.{seen_all}
 use Rattle.gm_ecql.specs.Limits.{joins}
 use Rattle.gm_ecql.proofs.limits.joins.Given as goal
 

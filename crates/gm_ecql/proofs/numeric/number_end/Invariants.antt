@@ -1,5 +1,5 @@
 use Rattle.std.proofs.Common.{◌≡◌, ◌+◌, drop, true}
-use Rattle.gm_ecql.specs.Scanning.{number_end}
+use Rattle.gm_ecql.specs.Scanner.{number_end}
 use Rattle.gm_ecql.proofs.numeric.number_end.Given as goal
 
 abbrev pub invariant-bytes : goal.invariant-bytes

@@ -1,6 +1,6 @@
 use Rattle.std.proofs.Common.{Some, ap, sym, ◌∙◌}
-use Rattle.gm_ecql.specs.Scanning.{a_number_then}
-use Rattle.gm_ecql.specs.Tokens.{a_number}
+use Rattle.gm_ecql.specs.Scanner.{a_number_then}
+use Rattle.gm_ecql.specs.Token.{a_number}
 use Rattle.gm_ecql.proofs.Complete.{no_utf8, utf8_is}
 use Rattle.gm_ecql.proofs.numeric.number_token.Goals as goal
 

@@ -6,9 +6,9 @@ use Rattle.gm_ecql.specs.declared.keyword.Keyword.TheVariants as keyword
 use Rattle.gm_ecql.specs.declared.token.Symbol.TheVariants as symbol
 use Rattle.gm_ecql.specs.Grammar.{negated_of}
 use Rattle.gm_ecql.specs.Judging.{found_seen, faults_seen}
-use Rattle.gm_ecql.specs.Parsing.{closed, factor_at, term_with, filter_with}
-use Rattle.gm_ecql.specs.Reading.{after_symbol}
-use Rattle.gm_ecql.specs.Tokens.{seen_all}
+use Rattle.gm_ecql.specs.Parser.{closed, factor_at, term_with, filter_with}
+use Rattle.gm_ecql.specs.Reader.{after_symbol}
+use Rattle.gm_ecql.specs.Token.{seen_all}
 use Rattle.gm_ecql.proofs.Pending.{pending_start, pending_more, pending_end}
 use Rattle.gm_ecql.proofs.Turns.{halts_then, halts_some, halts_not, halts_chain, halts_pending}
 use Rattle.gm_ecql.proofs.Turns.{factor_not, factor_lone, gives_as, gives_open, seen_length, pushed}

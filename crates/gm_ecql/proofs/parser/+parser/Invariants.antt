@@ -2,8 +2,8 @@ use Rattle.std.proofs.Common.{ℕ, ◌+◌, ◌*◌, ◌≤◌, ◌<◌, length,
 use Rattle.gm_filter.specs.Tree.{tree, all, any}
 use Rattle.gm_ecql.specs.declared.keyword.Keyword.TheVariants as keyword
 use Rattle.gm_ecql.specs.Judging.{faults_seen}
-use Rattle.gm_ecql.specs.Parsing.{factor_at, term_with, filter_with}
-use Rattle.gm_ecql.specs.Tokens.{seen_all}
+use Rattle.gm_ecql.specs.Parser.{factor_at, term_with, filter_with}
+use Rattle.gm_ecql.specs.Token.{seen_all}
 use Rattle.gm_ecql.proofs.Pending.{Pending}
 use Rattle.gm_ecql.proofs.parser.+parser.Given as goal
 

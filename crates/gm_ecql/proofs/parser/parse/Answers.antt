@@ -1,7 +1,7 @@
 use Rattle.std.proofs.Common.{◌≤◌, ◌∙◌, length, sym, ap, arith}
 use Rattle.std.proofs.lemmas.Result.{err_from_is_err_and}
 use Rattle.gm_ecql.specs.Judging.{found_seen}
-use Rattle.gm_ecql.specs.Tokens.{seen_all}
+use Rattle.gm_ecql.specs.Token.{seen_all}
 use Rattle.gm_ecql.proofs.DocumentSteps.{found_is, none_is, filter_halts, more_is}
 use Rattle.gm_ecql.proofs.Turns.{seen_length}
 use Rattle.gm_ecql.proofs.parser.parse.Goals as goal

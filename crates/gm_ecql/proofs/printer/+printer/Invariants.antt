@@ -1,7 +1,7 @@
 use Rattle.std.proofs.Common.{◌≡◌, ◌++◌, true, map, drop}
 use Rattle.std.specs.String.{string_bytes}
 use Rattle.gm_filter.specs.Tree.{tree, trees_of}
-use Rattle.gm_ecql.specs.Printing.{listed}
+use Rattle.gm_ecql.specs.Printer.{listed}
 use Rattle.gm_ecql.proofs.printer.+printer.Given as goal
 
 abbrev pub invariant-append_members-members : goal.invariant-append_members-members

@@ -1,5 +1,5 @@
 use Rattle.std.proofs.Common.{◌≡◌, ◌++◌, ℕ, List, encode_utf8_all, string_bytes}
-use Rattle.gm_ecql.specs.Tokens.{doubled}
+use Rattle.gm_ecql.specs.Token.{doubled}
 use Rattle.gm_ecql.proofs.printer.append_doubled.Given as goal
 
 abbrev pub invariant-characters : goal.invariant-characters

@@ -1,7 +1,7 @@
 use Rattle.std.proofs.Common.{◌≡◌, ◌++◌, drop}
 use Rattle.std.specs.Prelude.{codes}
 use Rattle.std.specs.String.{string_bytes}
-use Rattle.gm_ecql.specs.Printing.{commas, quoted_text, ids_text}
+use Rattle.gm_ecql.specs.Printer.{commas, quoted_text, ids_text}
 use Rattle.gm_ecql.proofs.printer.append_ids.Given as goal
 
 abbrev pub invariant-texts : goal.invariant-texts

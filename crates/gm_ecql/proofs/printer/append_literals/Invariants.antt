@@ -1,6 +1,6 @@
 use Rattle.std.proofs.Common.{◌≡◌, ◌++◌, true, drop}
 use Rattle.std.specs.String.{string_bytes}
-use Rattle.gm_ecql.specs.Printing.{commas, literal_text}
+use Rattle.gm_ecql.specs.Printer.{commas, literal_text}
 use Rattle.gm_ecql.proofs.printer.append_literals.Given as goal
 
 abbrev pub invariant-literals : goal.invariant-literals

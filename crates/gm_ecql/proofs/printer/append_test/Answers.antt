@@ -1,6 +1,6 @@
 use Rattle.std.proofs.Common.{◌++◌, ◌∙◌, sym, ap, string_bytes}
 use Rattle.gm_filter.specs.Tree.{tree}
-use Rattle.gm_ecql.specs.Printing.{test_text}
+use Rattle.gm_ecql.specs.Printer.{test_text}
 use Rattle.gm_ecql.proofs.Turns.{tree_intersects}
 use Rattle.gm_ecql.proofs.printer.append_test.Goals as goal
 

@@ -1,5 +1,5 @@
 use Rattle.std.proofs.Common.{◌≡◌, ◌+◌, ◌<◌, drop, true, false}
-use Rattle.gm_ecql.specs.Scanning.{text_end}
+use Rattle.gm_ecql.specs.Scanner.{text_end}
 use Rattle.gm_ecql.proofs.quoted.text_end.Given as goal
 
 abbrev pub invariant-bytes : goal.invariant-bytes

@@ -1,6 +1,6 @@
 use Rattle.std.proofs.Common.{Some, ap, sym, ◌∙◌}
-use Rattle.gm_ecql.specs.Scanning.{a_text_then}
-use Rattle.gm_ecql.specs.Tokens.{a_text, undoubled}
+use Rattle.gm_ecql.specs.Scanner.{a_text_then}
+use Rattle.gm_ecql.specs.Token.{a_text, undoubled}
 use Rattle.gm_ecql.proofs.Complete.{no_utf8, utf8_is}
 use Rattle.gm_ecql.proofs.quoted.text_token.Goals as goal
 

@@ -5,10 +5,10 @@ use Rattle.std.proofs.lemmas.Result.{err_from_is_err_and}
 use Rattle.gm_filter.specs.declared.filter.Filter.{Filter}
 use Rattle.gm_filter.specs.Tree.{tree}
 use Rattle.gm_ecql.specs.Judging.{found_seen}
-use Rattle.gm_ecql.specs.Parsing.{document}
+use Rattle.gm_ecql.specs.Parser.{document}
 use Rattle.gm_ecql.proofs.Filters.{filter_answer, filter_suits}
 use Rattle.gm_ecql.specs.Outcome.{Answers, filter_outcome}
-use Rattle.gm_ecql.specs.Tokens.{seen_spaced, seen_all}
+use Rattle.gm_ecql.specs.Token.{seen_spaced, seen_all}
 use Rattle.gm_ecql.proofs.Outcomes.{unspaced_seen}
 use Rattle.gm_ecql.proofs.Steps.{at_exit, token_fault, parse_fault, name_fault, all_well}
 use Rattle.gm_ecql.proofs.reader.read.Goals as goal

@@ -6,7 +6,7 @@ use Rattle.gm_ecql.specs.Change.{change_document, change_seen}
 use Rattle.gm_ecql.specs.Outcome.{meant, meant_by}
 use Rattle.gm_ecql.proofs.Changes.{change_answer, change_fits, change_may_hold}
 use Rattle.gm_ecql.specs.Outcome.{Answers, change_outcome}
-use Rattle.gm_ecql.specs.Tokens.{seen_spaced, seen_all}
+use Rattle.gm_ecql.specs.Token.{seen_spaced, seen_all}
 use Rattle.gm_ecql.proofs.Outcomes.{unspaced_seen}
 use Rattle.gm_ecql.proofs.Steps.{at_exit, token_fault, parse_fault, name_fault, all_well}
 use Rattle.gm_ecql.proofs.reader.read_change.Goals as goal

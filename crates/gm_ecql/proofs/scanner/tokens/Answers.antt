@@ -1,5 +1,5 @@
 use Rattle.std.proofs.Common.{map}
-use Rattle.gm_ecql.specs.Tokens.{seen_spaced}
+use Rattle.gm_ecql.specs.Token.{seen_spaced}
 use Rattle.gm_ecql.proofs.Outcomes.{blank_none, blank_spelled, tokens_given, tokens_found}
 use Rattle.gm_ecql.proofs.Outcomes.{tokens_missed}
 use Rattle.gm_ecql.proofs.scanner.tokens.Goals as goal

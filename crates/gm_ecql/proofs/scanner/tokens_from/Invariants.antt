@@ -1,5 +1,5 @@
 use Rattle.std.proofs.Common.{length, map}
-use Rattle.gm_ecql.specs.Tokens.{seen_spaced}
+use Rattle.gm_ecql.specs.Token.{seen_spaced}
 use Rattle.gm_ecql.proofs.Lists.{Keeps}
 use Rattle.gm_ecql.proofs.scanner.tokens_from.Given as goal
 

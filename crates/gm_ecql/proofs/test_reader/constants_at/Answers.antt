@@ -2,10 +2,10 @@ use Rattle.std.proofs.Common.{◌<◌, length, map, option_map, Some, sym, ◌�
 use Rattle.std.proofs.Common.{true, false}
 use Rattle.std.proofs.lemmas.Result.{err_from_is_err_and}
 use Rattle.gm_ecql.specs.declared.token.Symbol.TheVariants as symbol
-use Rattle.gm_ecql.specs.Reading.{◌>>=◌, after_symbol, constant_at, constants_at, separator_at}
-use Rattle.gm_ecql.specs.Reading.{members_at}
+use Rattle.gm_ecql.specs.Reader.{◌>>=◌, after_symbol, constant_at, constants_at, separator_at}
+use Rattle.gm_ecql.specs.Reader.{members_at}
 use Rattle.gm_ecql.specs.Test.{constant_seen}
-use Rattle.gm_ecql.specs.Tokens.{seen_all, undoubled}
+use Rattle.gm_ecql.specs.Token.{seen_all, undoubled}
 use Rattle.gm_ecql.proofs.Gathering.{Gathering, gathering_start, gathering_more, gathering_end}
 use Rattle.gm_ecql.proofs.Gathering.{gathering_none, gathering_open, map_push, not_there, there}
 use Rattle.gm_ecql.proofs.Gathering.{halts_none, constant_turn}

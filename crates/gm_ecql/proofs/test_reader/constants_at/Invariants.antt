@@ -1,7 +1,7 @@
 use Rattle.std.proofs.Common.{length, map}
-use Rattle.gm_ecql.specs.Reading.{constant_at, constants_at}
+use Rattle.gm_ecql.specs.Reader.{constant_at, constants_at}
 use Rattle.gm_ecql.specs.Test.{constant_seen}
-use Rattle.gm_ecql.specs.Tokens.{seen_all}
+use Rattle.gm_ecql.specs.Token.{seen_all}
 use Rattle.gm_ecql.proofs.Gathering.{Gathering}
 use Rattle.gm_ecql.proofs.test_reader.constants_at.Given as goal
 

@@ -1,7 +1,7 @@
 use Rattle.std.proofs.Common.{◌<◌, ◌∙◌, length, option_map, Some, sym, ap, subst, arith}
 use Rattle.std.proofs.lemmas.Result.{err_from_is_err_and}
 use Rattle.gm_ecql.specs.Test.{test_seen}
-use Rattle.gm_ecql.specs.Tokens.{seen_all}
+use Rattle.gm_ecql.specs.Token.{seen_all}
 use Rattle.gm_ecql.proofs.TestSteps.{test_shorter, named_is, named_halts, ids_are, ids_halt}
 use Rattle.gm_ecql.proofs.TestSteps.{lone_is, gives_or, shorter_or}
 use Rattle.gm_ecql.proofs.Turns.{seen_length}

@@ -1,6 +1,6 @@
 use Rattle.std.proofs.Common.{length, map}
-use Rattle.gm_ecql.specs.Reading.{text_at, texts_at}
-use Rattle.gm_ecql.specs.Tokens.{seen_all, undoubled}
+use Rattle.gm_ecql.specs.Reader.{text_at, texts_at}
+use Rattle.gm_ecql.specs.Token.{seen_all, undoubled}
 use Rattle.gm_ecql.proofs.Gathering.{Gathering}
 use Rattle.gm_ecql.proofs.test_reader.texts_at.Given as goal
 

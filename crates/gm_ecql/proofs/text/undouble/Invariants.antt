@@ -1,5 +1,5 @@
 use Rattle.std.proofs.Common.{◌≡◌, ◌++◌, ℕ, List, false, encode_utf8_all, string_bytes}
-use Rattle.gm_ecql.specs.Tokens.{undoubled_from}
+use Rattle.gm_ecql.specs.Token.{undoubled_from}
 use Rattle.gm_ecql.proofs.text.undouble.Given as goal
 
 abbrev pub invariant-characters : goal.invariant-characters

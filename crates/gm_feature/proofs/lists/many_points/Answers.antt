@@ -1,6 +1,6 @@
 use Rattle.std.proofs.Common.{◌≡◌, ◌++◌, ◌∷◌, []}
 use Rattle.std.proofs.lemmas.Result.{err_from_is_err_and}
-use Rattle.gm_feature.specs.Reading.{members_from, point_from}
+use Rattle.gm_feature.specs.Reader.{members_from, point_from}
 use Rattle.gm_feature.proofs.Loop.{goes_on, ends}
 use Rattle.gm_feature.proofs.lists.many_points.Goals as goal
 

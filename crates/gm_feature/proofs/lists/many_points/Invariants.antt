@@ -1,5 +1,5 @@
 use Rattle.std.proofs.Common.{◌≡◌, ◌-◌}
-use Rattle.gm_feature.specs.Reading.{members_from, point_from}
+use Rattle.gm_feature.specs.Reader.{members_from, point_from}
 use Rattle.gm_feature.proofs.Loop.{with_front}
 use Rattle.gm_feature.proofs.lists.many_points.Given as goal
 

@@ -1,6 +1,6 @@
 use Rattle.std.proofs.Common.{◌≡◌, Option, Some, None, sym, ap, ◌∙◌, arith}
 use Rattle.gm_feature.specs.declared.feature.Feature.{Feature}
-use Rattle.gm_feature.specs.Reading.{feature_from}
+use Rattle.gm_feature.specs.Reader.{feature_from}
 use Rattle.gm_feature.proofs.Wholes.{feature_takes, feature_again}
 use Rattle.gm_feature.proofs.reader.from_bytes.Goals as goal
 

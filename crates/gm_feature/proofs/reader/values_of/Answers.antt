@@ -1,7 +1,7 @@
 use Rattle.std.proofs.Common.{◌≡◌, ◌++◌, List, ◌∷◌, [], Some, sym, ap, ◌∙◌}
 use Rattle.gm_feature.specs.declared.value.Value.{Value}
 use Rattle.std.proofs.lemmas.Result.{err_from_is_err_and}
-use Rattle.gm_feature.specs.Reading.{values_from}
+use Rattle.gm_feature.specs.Reader.{values_from}
 use Rattle.gm_feature.proofs.Fitting.{kinds}
 use Rattle.gm_feature.proofs.Loop.{value_goes_on, value_ends, values_done}
 use Rattle.gm_feature.proofs.reader.values_of.Goals as goal

@@ -1,5 +1,5 @@
 use Rattle.std.proofs.Common.{◌≡◌, drop}
-use Rattle.gm_feature.specs.Reading.{values_from}
+use Rattle.gm_feature.specs.Reader.{values_from}
 use Rattle.gm_feature.proofs.Fitting.{kinds}
 use Rattle.gm_feature.proofs.Loop.{with_front}
 use Rattle.gm_feature.proofs.reader.values_of.Given as goal

@@ -1,6 +1,6 @@
 use Rattle.std.proofs.Common.{◌∙◌, arith}
 use Rattle.gm_geom.specs.declared.geometry.Geometry.TheVariants as geo
-use Rattle.gm_feature.specs.Reading.{point_from, points_from, lines_from, areas_from, body_from}
+use Rattle.gm_feature.specs.Reader.{point_from, points_from, lines_from, areas_from, body_from}
 use Rattle.gm_feature.proofs.Leaps.{point_sized, leaps_from, body_1, body_2, body_3, body_4, body_5}
 use Rattle.gm_feature.proofs.Leaps.{body_6}
 use Rattle.gm_feature.proofs.skips.skip_body.Goals as goal

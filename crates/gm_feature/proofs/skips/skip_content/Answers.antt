@@ -1,7 +1,7 @@
 use Rattle.std.proofs.Common.{ℤ, Bool, ◌∙◌}
 use Rattle.std.specs.Int.{w32, w64}
 use Rattle.gm_feature.specs.declared.value.Value.TheVariants as value
-use Rattle.gm_feature.specs.Reading.{signed_from, truth_from, instant_from}
+use Rattle.gm_feature.specs.Reader.{signed_from, truth_from, instant_from}
 use Rattle.gm_feature.proofs.Leaps.{made_leaps, signed_sized, truth_sized, instant_number}
 use Rattle.gm_feature.proofs.skips.skip_content.Goals as goal
 

@@ -1,4 +1,4 @@
-use Rattle.gm_feature.specs.Reading.{lines_from}
+use Rattle.gm_feature.specs.Reader.{lines_from}
 use Rattle.gm_feature.proofs.Leaps.{left_start, left_on, left_done}
 use Rattle.gm_feature.proofs.skips.skip_many_areas.Goals as goal
 

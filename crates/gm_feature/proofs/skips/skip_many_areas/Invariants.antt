@@ -1,6 +1,6 @@
 use Rattle.std.proofs.Common.{◌-◌}
 use Rattle.std.specs.Option.{ForSome}
-use Rattle.gm_feature.specs.Reading.{members_from, lines_from}
+use Rattle.gm_feature.specs.Reader.{members_from, lines_from}
 use Rattle.gm_feature.proofs.Leaps.{Left}
 use Rattle.gm_feature.proofs.skips.skip_many_areas.Given as goal
 

@@ -1,4 +1,4 @@
-use Rattle.gm_feature.specs.Reading.{points_from}
+use Rattle.gm_feature.specs.Reader.{points_from}
 use Rattle.gm_feature.proofs.Leaps.{left_start, left_on, left_done}
 use Rattle.gm_feature.proofs.skips.skip_many_lines.Goals as goal
 

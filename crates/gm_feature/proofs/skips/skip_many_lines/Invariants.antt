@@ -1,6 +1,6 @@
 use Rattle.std.proofs.Common.{◌-◌}
 use Rattle.std.specs.Option.{ForSome}
-use Rattle.gm_feature.specs.Reading.{members_from, points_from}
+use Rattle.gm_feature.specs.Reader.{members_from, points_from}
 use Rattle.gm_feature.proofs.Leaps.{Left}
 use Rattle.gm_feature.proofs.skips.skip_many_lines.Given as goal
 

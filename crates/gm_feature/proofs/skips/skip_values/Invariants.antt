@@ -1,5 +1,5 @@
 use Rattle.std.specs.Option.{ForSome}
-use Rattle.gm_feature.specs.Reading.{values_from}
+use Rattle.gm_feature.specs.Reader.{values_from}
 use Rattle.gm_feature.proofs.Fitting.{kinds}
 use Rattle.gm_feature.proofs.Leaps.{ValuesLeft}
 use Rattle.gm_feature.proofs.skips.skip_values.Given as goal

@@ -1,5 +1,5 @@
 use Rattle.std.proofs.Common.{ℕ, ap, ◌∙◌}
-use Rattle.gm_feature.specs.Reading.{members_from, lines_from}
+use Rattle.gm_feature.specs.Reader.{members_from, lines_from}
 use Rattle.gm_feature.proofs.Leaps.{areas_counted}
 use Rattle.gm_feature.proofs.spans.by_areas.Goals as goal
 

@@ -1,5 +1,5 @@
 use Rattle.std.proofs.Common.{refl}
-use Rattle.gm_feature.specs.Reading.{lines_from}
+use Rattle.gm_feature.specs.Reader.{lines_from}
 use Rattle.gm_feature.proofs.Widening.{areas_more, by_areas, by_lines, owes_start, owes_on}
 use Rattle.gm_feature.proofs.Widening.{owes_done}
 use Rattle.gm_feature.proofs.spans.by_many_areas.Goals as goal

@@ -1,5 +1,5 @@
 use Rattle.std.proofs.Common.{refl}
-use Rattle.gm_feature.specs.Reading.{points_from}
+use Rattle.gm_feature.specs.Reader.{points_from}
 use Rattle.gm_feature.proofs.Widening.{by_lines, by_points, lines_more, owes_start, owes_on}
 use Rattle.gm_feature.proofs.Widening.{owes_done}
 use Rattle.gm_feature.proofs.spans.by_many_lines.Goals as goal

@@ -1,6 +1,6 @@
 use Rattle.std.proofs.Common.{◌-◌}
 use Rattle.std.specs.Option.{ForSome}
-use Rattle.gm_feature.specs.Reading.{members_from, points_from}
+use Rattle.gm_feature.specs.Reader.{members_from, points_from}
 use Rattle.gm_feature.proofs.Widening.{by_lines, Owes}
 use Rattle.gm_feature.proofs.spans.by_many_lines.Given as goal
 

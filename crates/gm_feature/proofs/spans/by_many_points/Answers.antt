@@ -1,6 +1,6 @@
 use Rattle.gm_geom.specs.Extent.{widened}
 use Rattle.std.proofs.Common.{refl}
-use Rattle.gm_feature.specs.Reading.{point_from}
+use Rattle.gm_feature.specs.Reader.{point_from}
 use Rattle.gm_feature.proofs.Widening.{by_points, points_more, owes_start, owes_on, owes_done}
 use Rattle.gm_feature.proofs.spans.by_many_points.Goals as goal
 

@@ -1,6 +1,6 @@
 use Rattle.std.proofs.Common.{◌-◌}
 use Rattle.std.specs.Option.{ForSome}
-use Rattle.gm_feature.specs.Reading.{members_from, point_from}
+use Rattle.gm_feature.specs.Reader.{members_from, point_from}
 use Rattle.gm_feature.proofs.Widening.{by_points, Owes}
 use Rattle.gm_feature.proofs.spans.by_many_points.Given as goal
 

@@ -1,5 +1,5 @@
 use Rattle.std.proofs.Common.{ℕ, ap, ◌∙◌}
-use Rattle.gm_feature.specs.Reading.{members_from, point_from}
+use Rattle.gm_feature.specs.Reader.{members_from, point_from}
 use Rattle.gm_feature.proofs.Leaps.{points_read}
 use Rattle.gm_feature.proofs.spans.by_points.Goals as goal
 

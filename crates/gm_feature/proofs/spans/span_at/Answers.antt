@@ -1,7 +1,7 @@
 use Rattle.std.proofs.Common.{[], ◌∷◌, refl, arith}
 use Rattle.gm_geom.specs.declared.geometry.Geometry.TheVariants as geo
 use Rattle.gm_geom.specs.Geometry.{joined}
-use Rattle.gm_feature.specs.Reading.{point_from, points_from, lines_from, areas_from, body_from}
+use Rattle.gm_feature.specs.Reader.{point_from, points_from, lines_from, areas_from, body_from}
 use Rattle.gm_feature.proofs.Leaps.{body_1, body_2, body_3, body_4, body_5, body_6}
 use Rattle.gm_feature.proofs.Widening.{spans_from}
 use Rattle.gm_feature.proofs.spans.span_at.Goals as goal

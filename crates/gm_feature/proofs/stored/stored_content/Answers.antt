@@ -1,6 +1,6 @@
 use Rattle.gm_geom.specs.declared.geometry.Geometry.{Geometry}
 use Rattle.gm_feature.specs.declared.value.Value.TheVariants as value
-use Rattle.gm_feature.specs.Reading.{geometry_from}
+use Rattle.gm_feature.specs.Reader.{geometry_from}
 use Rattle.gm_feature.proofs.Seen.{made_says}
 use Rattle.gm_feature.proofs.stored.stored_content.Goals as goal
 

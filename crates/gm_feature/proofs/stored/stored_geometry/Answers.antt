@@ -4,7 +4,7 @@ use Rattle.gm_geom.specs.declared.geometry.Geometry.{Geometry}
 use Rattle.gm_geom.specs.declared.geometry.Geometry.TheVariants as geo
 use Rattle.gm_geom.specs.Validity.{fault_of}
 use Rattle.gm_feature.specs.declared.value.Value.TheVariants as value
-use Rattle.gm_feature.specs.Reading.{point_from}
+use Rattle.gm_feature.specs.Reader.{point_from}
 use Rattle.gm_feature.specs.Shape.{has_shape}
 use Rattle.gm_feature.proofs.Leaps.{no_geometry, tagged_body, tail_of, body_1}
 use Rattle.gm_feature.proofs.Seen.{made_is, not_point, first_byte}

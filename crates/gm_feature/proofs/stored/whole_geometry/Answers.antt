@@ -5,7 +5,7 @@ use Rattle.std.proofs.lemmas.Grind.{common_steps}
 use Rattle.gm_geom.specs.declared.geometry.Geometry.{Geometry}
 use Rattle.gm_geom.specs.Validity.{fault_of}
 use Rattle.gm_types.specs.declared.kind.GeoKind.TheVariants as shape
-use Rattle.gm_feature.specs.Reading.{geometry_from}
+use Rattle.gm_feature.specs.Reader.{geometry_from}
 use Rattle.gm_feature.specs.Shape.{has_shape}
 use Rattle.gm_feature.specs.Spelling.{geometry_bytes}
 use Rattle.gm_feature.proofs.Fields.{some_is}

@@ -1,5 +1,5 @@
 use Rattle.std.proofs.Common.{◌≡◌, ◌≤◌, length, take}
-use Rattle.gm_lexi.specs.After.{after_of}
+use Rattle.gm_lexi.specs.Ends.{after_of}
 use Rattle.gm_lexi.proofs.ends.without_full.Given as goal
 
 abbrev pub invariant-loop-end : goal.invariant-loop-end

@@ -1,5 +1,5 @@
 use Rattle.std.proofs.Common.{◌≡◌}
-use Rattle.gm_plan.specs.Merged.{merged}
+use Rattle.gm_plan.specs.Merging.{merged}
 use Rattle.gm_plan.proofs.merging.merged.Given as goal
 
 abbrev pub invariant-list : goal.invariant-list

@@ -1,5 +1,5 @@
 use Rattle.std.proofs.Common.{◌≡◌, ◌++◌, drop}
-use Rattle.gm_plan.specs.Merged.{merged_in, pending}
+use Rattle.gm_plan.specs.Merging.{merged_in, pending}
 use Rattle.gm_plan.proofs.merging.merged_in.Given as goal
 
 abbrev pub invariant-each : goal.invariant-each

@@ -2,7 +2,7 @@ use Rattle.std.proofs.Common.{◌≡◌, IfOk, sym, subst}
 use Rattle.gm_script.specs.declared.command.Command.{Command}
 use Rattle.gm_script.specs.Order.{order_of}
 use Rattle.gm_program.specs.Refusals.{IsRefusal}
-use Rattle.gm_program.specs.Serving.{Executes}
+use Rattle.gm_program.specs.Serve.{Executes}
 use Rattle.gm_program.specs.Step.{step}
 use Rattle.gm_program.proofs.Bound.{if_ok}
 use Rattle.gm_program.proofs.execute.execute.Goals as goal

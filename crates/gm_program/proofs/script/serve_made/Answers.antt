@@ -2,7 +2,7 @@ use Rattle.std.proofs.Common.{◌≡◌, ◌∙◌, refl, subst}
 use Rattle.gm_program.specs.declared.pending.Pending.TheVariants.{Nothing}
 use Rattle.gm_program.specs.Lines.{lines_of}
 use Rattle.gm_program.specs.Machine.{machine_at}
-use Rattle.gm_program.specs.Serving.{moment, Closes, KeptAt, closing, WritesPart}
+use Rattle.gm_program.specs.Serve.{moment, Closes, KeptAt, closing, WritesPart}
 use Rattle.gm_program.proofs.Making.{loads, part_heard}
 use Rattle.gm_program.proofs.Streaming.{kept_at_start, part_whole}
 use Rattle.gm_program.proofs.script.serve_made.Goals as goal

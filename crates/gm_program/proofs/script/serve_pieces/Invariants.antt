@@ -1,5 +1,5 @@
 use Rattle.std.proofs.Common.{◌<◌, ◌≤◌, ◌-◌, ◌^◌, []}
-use Rattle.gm_program.specs.Serving.{moment, Streams}
+use Rattle.gm_program.specs.Serve.{moment, Streams}
 use Rattle.gm_program.proofs.script.serve_pieces.Given as goal
 
 abbrev pub invariant-pieces : goal.invariant-pieces

@@ -1,7 +1,7 @@
 use Rattle.std.proofs.Common.{◌≡◌, ◌≤◌, ◌-◌, ℕ, List, take, length}
 use Rattle.gm_program.specs.Machine.{Machine}
 use Rattle.gm_program.specs.Lines.{complete_from, partial_from, cut}
-use Rattle.gm_program.specs.Serving.{moment, Serves, Keeps, HasMachine}
+use Rattle.gm_program.specs.Serve.{moment, Serves, Keeps, HasMachine}
 use Rattle.gm_program.proofs.serve.serve_piece.Given as goal
 
 abbrev pub invariant-loop-length : goal.invariant-loop-length

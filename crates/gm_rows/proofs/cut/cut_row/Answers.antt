@@ -1,6 +1,6 @@
 use Rattle.std.proofs.Common.{◌+◌, ◌∙◌, List, ℕ, drop, refl, sym, ap, arith}
 use Rattle.std.specs.Prelude.{slice_range}
-use Rattle.gm_rows.specs.Reading.{cut_from}
+use Rattle.gm_rows.specs.Reader.{cut_from}
 use Rattle.gm_rows.proofs.PlainRows.{at_comma, at_other}
 use Rattle.gm_rows.proofs.Slices.{seen, seen-push}
 use Rattle.gm_rows.proofs.cut.cut_row.Goals as goal

@@ -1,6 +1,6 @@
 use Rattle.std.proofs.Common.{◌≡◌, ◌≤◌, [], map, drop}
 use Rattle.std.specs.Prelude.{slice_range}
-use Rattle.gm_rows.specs.Reading.{cut_from}
+use Rattle.gm_rows.specs.Reader.{cut_from}
 use Rattle.gm_rows.proofs.cut.cut_row.Given as goal
 
 abbrev pub invariant-bytes : goal.invariant-bytes

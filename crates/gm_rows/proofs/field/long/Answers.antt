@@ -1,7 +1,7 @@
 use Rattle.std.proofs.Common.{◌∙◌, sym, ap}
 use mir.Syntax.{w64}
 use mir.Val.{hbits}
-use Rattle.gm_rows.specs.Reading.{integer_of}
+use Rattle.gm_rows.specs.Reader.{integer_of}
 use Rattle.gm_rows.proofs.Numbers.{no_number, parsed_ok, parsed_err}
 use Rattle.gm_rows.proofs.field.long.Goals as goal
 

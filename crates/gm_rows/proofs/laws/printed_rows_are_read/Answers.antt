@@ -1,5 +1,5 @@
 use Rattle.gm_rows.proofs.RowLaws.{row_read}
-use Rattle.gm_wkt.specs.Printing as wkt
+use Rattle.gm_wkt.specs.Printer as wkt
 use Rattle.gm_rows.proofs.laws.printed_rows_are_read.Goals as goal
 
 pub returns : goal.returns

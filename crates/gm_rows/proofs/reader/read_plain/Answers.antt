@@ -1,5 +1,5 @@
 use Rattle.std.proofs.Common.{◌∙◌, List, ℕ, Option, Some, sym, ap, subst}
-use Rattle.gm_rows.specs.Reading.{Answers, feature_of_record}
+use Rattle.gm_rows.specs.Reader.{Answers, feature_of_record}
 use Rattle.gm_rows.proofs.PlainRows.{plain_record}
 use Rattle.gm_rows.proofs.Slices.{seen}
 use Rattle.gm_rows.proofs.reader.read_plain.Goals as goal

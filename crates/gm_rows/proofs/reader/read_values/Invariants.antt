@@ -1,5 +1,5 @@
 use Rattle.std.proofs.Common.{◌≡◌, drop, map}
-use Rattle.gm_rows.specs.Reading.{values_of, attribute_kinds}
+use Rattle.gm_rows.specs.Reader.{values_of, attribute_kinds}
 use Rattle.gm_rows.proofs.ReadFields.{carried}
 use Rattle.gm_rows.proofs.reader.read_values.Given as goal
 

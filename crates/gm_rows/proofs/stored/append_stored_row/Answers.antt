@@ -2,7 +2,7 @@ use Rattle.std.proofs.Common.{◌≡◌, ◌++◌, ℕ, List, map, ap, subst, sy
 use Rattle.std.specs.Str.{IsUtf8}
 use Rattle.std.specs.String.{string_bytes}
 use Rattle.std.proofs.lemmas.Result.{on_ok_weaker}
-use Rattle.gm_rows.specs.Printing.{printed, field_of, further}
+use Rattle.gm_rows.specs.Printer.{printed, field_of, further}
 use Rattle.gm_rows.proofs.stored.append_stored_row.Goals as goal
 
 pub returns : goal.returns

@@ -1,8 +1,8 @@
 use Rattle.std.proofs.Common.{refl}
 use Rattle.std.specs.String.{string_bytes}
 use Rattle.gm_feature.specs.declared.value.Value.TheVariants as value
-use Rattle.gm_wkt.specs.Printing as wkt
-use Rattle.gm_rows.specs.Printing.{printed}
+use Rattle.gm_wkt.specs.Printer as wkt
+use Rattle.gm_rows.specs.Printer.{printed}
 use Rattle.gm_rows.proofs.Pushing.{pushed_as}
 use Rattle.gm_rows.proofs.stored.push_next.Goals as goal
 

@@ -8,8 +8,8 @@ use Rattle.gm_geom.specs.declared.geometry.Geometry.TheVariants as geo
 use Rattle.gm_feature.specs.declared.value.Value.{Value}
 use Rattle.gm_feature.specs.declared.value.Value.TheVariants as value
 use Rattle.gm_feature.specs.Value.{is_sound}
-use Rattle.gm_wkt.specs.Printing as wkt
-use Rattle.gm_rows.specs.Printing.{printed, field_of}
+use Rattle.gm_wkt.specs.Printer as wkt
+use Rattle.gm_rows.specs.Printer.{printed, field_of}
 use Rattle.gm_rows.proofs.Pushing.{pushed_as}
 use Rattle.gm_rows.proofs.Unquoted.{unquoted}
 use Rattle.gm_rows.proofs.stored.push_stored_value.Goals as goal

@@ -2,7 +2,7 @@ use Rattle.std.proofs.Common.{◌++◌, drop, map}
 use Rattle.std.specs.String.{string_bytes}
 use Rattle.gm_feature.specs.declared.feature.Feature.{Feature}
 use Rattle.gm_feature.specs.Stored.{IsStored}
-use Rattle.gm_rows.specs.Printing.{field_of, further}
+use Rattle.gm_rows.specs.Printer.{field_of, further}
 use Rattle.gm_rows.proofs.Pushing.{ArePushed}
 use Rattle.gm_rows.proofs.stored.push_stored_values.Given as goal
 

@@ -1,7 +1,7 @@
 use Rattle.std.proofs.Common.{◌++◌, ℕ, List, ap, ◌∙◌}
 use Rattle.std.specs.String.{string_bytes}
 use Rattle.std.proofs.lemmas.Result.{IfOk-weaker}
-use Rattle.gm_rows.specs.Printing.{printed}
+use Rattle.gm_rows.specs.Printer.{printed}
 use Rattle.gm_rows.proofs.stored.push_text.Goals as goal
 
 pub returns-in-Ok : goal.returns-in-Ok

@@ -1,7 +1,7 @@
 use Rattle.std.proofs.Common.{◌≡◌, true, map, drop}
 use Rattle.gm_feature.specs.declared.feature.Feature.{Feature}
 use Rattle.gm_feature.specs.Stored.{IsStored}
-use Rattle.gm_filter.specs.Suits.{all_suit}
+use Rattle.gm_filter.specs.Suitability.{all_suit}
 use Rattle.gm_filter.specs.Tree.{trees_of}
 use Rattle.gm_filter.specs.Truth.{are_all_true, is_any_true}
 use Rattle.gm_scan.specs.Test.{tree_of}

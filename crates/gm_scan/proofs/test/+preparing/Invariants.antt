@@ -1,5 +1,5 @@
 use Rattle.std.proofs.Common.{◌≡◌, true, map, take, drop}
-use Rattle.gm_filter.specs.Suits.{all_suit}
+use Rattle.gm_filter.specs.Suitability.{all_suit}
 use Rattle.gm_filter.specs.Tree.{tree, trees_of}
 use Rattle.gm_scan.specs.Test.{tree_of}
 use Rattle.gm_scan.proofs.test.+preparing.Given as goal

@@ -3,7 +3,7 @@ use Rattle.std.proofs.Common.{Ok}
 use Rattle.std.specs.Prelude.{codes, if◌then◌else◌, ◌&&◌, ◌⊎◌, is_some, nat_lt}
 use Rattle.std.proofs.lemmas.Bool.{lt-ltb, le-ltb}
 use Rattle.gm_base.specs.declared.code.Code.TheVariants.{E05, E19}
-use Rattle.gm_types.specs.Reading.{specification_of}
+use Rattle.gm_types.specs.Reader.{specification_of}
 use Rattle.gm_types.specs.Specification.{Specification}
 use Rattle.gm_script.proofs.FormedLines.{lacking, having}
 use Rattle.gm_script.proofs.LaidLines.{read_laid}

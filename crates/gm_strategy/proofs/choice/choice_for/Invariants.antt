@@ -4,7 +4,7 @@ use Rattle.gm_types.specs.declared.index.IndexKind.{IndexKind}
 use Rattle.gm_types.specs.declared.index.IndexKind.TheVariants.{Id}
 use Rattle.gm_filter.specs.Tree.{tree}
 use Rattle.gm_strategy.specs.declared.choice.Choice.{Choice}
-use Rattle.gm_strategy.specs.Chosen.{choice, cheaper}
+use Rattle.gm_strategy.specs.Choice.{choice, cheaper}
 use Rattle.gm_strategy.specs.Cost.{price_of, cost_of}
 use Rattle.gm_strategy.proofs.choice.choice_for.Given as goal
 

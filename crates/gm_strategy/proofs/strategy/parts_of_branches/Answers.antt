@@ -2,7 +2,7 @@ use Rattle.std.proofs.Common.{sym, ap, ◌∙◌, subst}
 use Rattle.std.specs.Borrow.{Bor}
 use Rattle.std.specs.Prelude.{nat_lt}
 use Rattle.gm_filter.specs.declared.filter.Filter.{Filter}
-use Rattle.gm_filter.specs.Suits.{Suits}
+use Rattle.gm_filter.specs.Suitability.{Suits}
 use Rattle.gm_filter.specs.Tree.{tree}
 use Rattle.gm_strategy.specs.declared.choice.Choice.{Choice}
 use Rattle.gm_strategy.specs.Plan.{is_bounded}

@@ -1,5 +1,5 @@
 use Rattle.std.proofs.Common.{sym}
-use Rattle.gm_types.specs.Reading.{value_if, option_with}
+use Rattle.gm_types.specs.Reader.{value_if, option_with}
 use Rattle.gm_types.specs.Words.{is_key, is_bare}
 use Rattle.gm_types.proofs.ReadParts.{stopped, option_refused, option_without_key}
 use Rattle.gm_types.proofs.ReadParts.{option_without_value, option_taken}

@@ -1,5 +1,5 @@
 use Rattle.gm_types.specs.Parts.{parts_of}
-use Rattle.gm_types.specs.Reading.{read_all, attribute_of}
+use Rattle.gm_types.specs.Reader.{read_all, attribute_of}
 use Rattle.gm_types.proofs.ReadParts.{stopped_adding, last_read, last_refused, next_read}
 use Rattle.gm_types.proofs.ReadParts.{next_refused}
 use Rattle.gm_types.proofs.attribute_reader.read_attributes.Goals as goal

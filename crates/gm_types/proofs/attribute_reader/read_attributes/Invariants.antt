@@ -1,6 +1,6 @@
 use Rattle.std.proofs.Common.{◌≡◌, length}
 use Rattle.gm_types.specs.Parts.{parts_of}
-use Rattle.gm_types.specs.Reading.{read_all, attribute_of}
+use Rattle.gm_types.specs.Reader.{read_all, attribute_of}
 use Rattle.gm_types.proofs.ReadParts.{appended}
 use Rattle.gm_types.proofs.attribute_reader.read_attributes.Given as goal
 

@@ -1,6 +1,6 @@
 use Rattle.std.proofs.Common.{◌≡◌, length}
 use Rattle.gm_types.specs.Parts.{parts_of}
-use Rattle.gm_types.specs.Reading.{read_all, option_of}
+use Rattle.gm_types.specs.Reader.{read_all, option_of}
 use Rattle.gm_types.proofs.ReadParts.{appended}
 use Rattle.gm_types.proofs.attribute_reader.read_options.Given as goal
 

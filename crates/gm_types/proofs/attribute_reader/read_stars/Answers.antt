@@ -1,4 +1,4 @@
-use Rattle.gm_types.specs.Reading.{is_starred, stars_of}
+use Rattle.gm_types.specs.Reader.{is_starred, stars_of}
 use Rattle.gm_types.proofs.ReadParts.{last_mapped, next_mapped}
 use Rattle.gm_types.proofs.attribute_reader.read_stars.Goals as goal
 

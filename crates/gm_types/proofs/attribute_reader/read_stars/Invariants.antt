@@ -1,6 +1,6 @@
 use Rattle.std.proofs.Common.{◌≡◌, ◌++◌, length, map}
 use Rattle.gm_types.specs.Parts.{parts_of}
-use Rattle.gm_types.specs.Reading.{is_starred}
+use Rattle.gm_types.specs.Reader.{is_starred}
 use Rattle.gm_types.proofs.attribute_reader.read_stars.Given as goal
 
 abbrev pub invariant-parts : goal.invariant-parts

@@ -1,6 +1,6 @@
 use Rattle.std.proofs.Common.{List, Some, sym, ◌∙◌, ap}
 use Rattle.gm_types.specs.declared.datum.Datum.{Datum}
-use Rattle.gm_types.specs.Reading.{attributes_of, stars_of, data_of, outline_with, outline_of}
+use Rattle.gm_types.specs.Reader.{attributes_of, stars_of, data_of, outline_with, outline_of}
 use Rattle.gm_types.proofs.Outlined.{outline_stopped, outline_moved, no_data, outline_uncut}
 use Rattle.gm_types.proofs.Outlined.{outline_cut}
 use Rattle.gm_types.proofs.reader.read_outline.Goals as goal

@@ -1,5 +1,5 @@
 use Rattle.std.proofs.Common.{◌∙◌, ap}
-use Rattle.gm_types.specs.Reading.{stars_fit, geometry_place}
+use Rattle.gm_types.specs.Reader.{stars_fit, geometry_place}
 use Rattle.gm_types.proofs.Outlined.{starred, unstarred}
 use Rattle.gm_types.proofs.reader.starred_outline.Goals as goal
 

@@ -1,6 +1,6 @@
 use Rattle.std.proofs.Common.{ap, ◌∙◌}
 use Rattle.gm_wkt.specs.Answer.{judged, kept_or}
-use Rattle.gm_wkt.specs.Printing.{printed}
+use Rattle.gm_wkt.specs.Printer.{printed}
 use Rattle.gm_wkt.proofs.Prints.{PrintsNumbers, printed_spells}
 use Rattle.gm_wkt.proofs.Values.{geometry_only}
 use Rattle.gm_wkt.proofs.laws.printed_is_spelled.Goals as goal

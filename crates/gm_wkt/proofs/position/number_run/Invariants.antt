@@ -1,5 +1,5 @@
 use Rattle.std.proofs.Common.{◌≡◌, ◌+◌, drop}
-use Rattle.gm_wkt.specs.Reading.{number_run}
+use Rattle.gm_wkt.specs.Reader.{number_run}
 use Rattle.gm_wkt.proofs.position.number_run.Given as goal
 
 abbrev pub invariant-bytes : goal.invariant-bytes

@@ -1,7 +1,7 @@
 use Rattle.std.proofs.Common.{ap, ◌∙◌, List, ℕ, ℤ, rules}
 use Rattle.std.specs.Option.{option_and_then}
 use Rattle.std.proofs.lemmas.Int.{to_z-of_z}
-use Rattle.gm_wkt.specs.Reading.{second_at}
+use Rattle.gm_wkt.specs.Reader.{second_at}
 use Rattle.gm_wkt.proofs.position.position_at.Goals as goal
 use mir.Syntax.{w32}
 use mir.Val.{SFits}

@@ -1,6 +1,6 @@
 use Rattle.std.proofs.Common.{◌≡◌, ◌++◌, ◌∷◌, [], drop}
 use Rattle.std.specs.String.{string_bytes}
-use Rattle.gm_wkt.specs.Printing.{members_text, list_text}
+use Rattle.gm_wkt.specs.Printer.{members_text, list_text}
 use Rattle.gm_wkt.proofs.printer.append_list.Given as goal
 
 abbrev pub invariant-items : goal.invariant-items

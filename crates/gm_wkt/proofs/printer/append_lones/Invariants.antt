@@ -1,6 +1,6 @@
 use Rattle.std.proofs.Common.{◌≡◌, ◌++◌, ◌∷◌, [], drop}
 use Rattle.std.specs.String.{string_bytes}
-use Rattle.gm_wkt.specs.Printing.{members_text, lone_text, list_text}
+use Rattle.gm_wkt.specs.Printer.{members_text, lone_text, list_text}
 use Rattle.gm_wkt.proofs.printer.append_lones.Given as goal
 
 abbrev pub invariant-points : goal.invariant-points

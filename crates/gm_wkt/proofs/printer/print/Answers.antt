@@ -1,6 +1,6 @@
 use Rattle.std.proofs.Common.{◌≡◌, sym, subst, List, ℕ, rules}
 use Rattle.gm_wkt.specs.Grammar.{SpellsText}
-use Rattle.gm_wkt.specs.Printing.{printed}
+use Rattle.gm_wkt.specs.Printer.{printed}
 use Rattle.gm_wkt.proofs.Prints.{printed_spells}
 use Rattle.gm_wkt.proofs.printer.print.Goals as goal
 

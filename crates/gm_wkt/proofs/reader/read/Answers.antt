@@ -2,7 +2,7 @@ use Rattle.std.proofs.Common.{subst, Err}
 use Rattle.gm_wkt.specs.declared.fault.WktFault.TheVariants as fault
 use Rattle.gm_geom.specs.declared.geometry.Geometry.{Geometry}
 use Rattle.gm_wkt.specs.Answer.{IsReadAs}
-use Rattle.gm_wkt.specs.Reading.{OnlyMemory}
+use Rattle.gm_wkt.specs.Reader.{OnlyMemory}
 use Rattle.gm_wkt.proofs.Values.{value_from}
 use Rattle.gm_wkt.proofs.Wholes.{answer_from}
 use Rattle.gm_wkt.proofs.reader.read.Goals as goal

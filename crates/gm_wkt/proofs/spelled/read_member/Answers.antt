@@ -1,6 +1,6 @@
 use Rattle.std.proofs.Common.{sym, ◌∙◌, subst, List, ℕ}
 use Rattle.std.proofs.lemmas.Result.{err_from_is_err_and}
-use Rattle.gm_wkt.specs.Reading.{Takes}
+use Rattle.gm_wkt.specs.Reader.{Takes}
 use Rattle.gm_wkt.proofs.Members.{member_found, member_item}
 use Rattle.gm_wkt.proofs.Readers.{member_same, member_none}
 use Rattle.gm_wkt.proofs.spelled.read_member.Goals as goal

@@ -1,7 +1,7 @@
 use Rattle.std.proofs.Common.{◌++◌, ◌∷◌, [], true, false, Bool, sym, ◌∙◌, subst, List}
 use Rattle.std.proofs.lemmas.Result.{err_from_is_err_and}
 use Rattle.gm_wkt.specs.Grammar.{SpellsMember}
-use Rattle.gm_wkt.specs.Reading.{separator, UpTo}
+use Rattle.gm_wkt.specs.Reader.{separator, UpTo}
 use Rattle.gm_wkt.proofs.Readers.{more_found, more_remains, last_remains, first_member, Remains}
 use Rattle.gm_wkt.proofs.Readers.{Same}
 use Rattle.gm_wkt.proofs.spelled.read_members.Goals as goal

@@ -1,5 +1,5 @@
 use Rattle.std.proofs.Common.{ℕ, List, ◌++◌, length}
-use Rattle.gm_wkt.specs.Reading.{UpTo}
+use Rattle.gm_wkt.specs.Reader.{UpTo}
 use Rattle.gm_wkt.proofs.Readers.{Remains}
 use Rattle.gm_wkt.proofs.spelled.read_members.Given as goal
 

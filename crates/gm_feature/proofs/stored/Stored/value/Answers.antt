@@ -2,7 +2,7 @@ use Rattle.std.proofs.Common.{◌≡◌, true, List, suc, take, drop, get_or, ap
 use Rattle.gm_types.specs.declared.attribute.Attribute.{Attribute}
 use Rattle.gm_feature.specs.declared.value.Value.TheVariants as value
 use Rattle.gm_feature.specs.Feature.{values_fit}
-use Rattle.gm_feature.specs.Reading.{value_from, values_from}
+use Rattle.gm_feature.specs.Reader.{value_from, values_from}
 use Rattle.gm_feature.specs.Spelling.{values_bytes}
 use Rattle.gm_feature.proofs.Fitting.{kinds}
 use Rattle.gm_feature.proofs.Seen.{stored_identifier, values_before, value_there, no_value_there}

@@ -1,7 +1,7 @@
 use Rattle.std.proofs.Common.{◌≡◌, ◌∙◌, sym, ap, arith}
 use Rattle.gm_base.specs.Counter.{capped_sum}
 use Rattle.gm_engine_rows.specs.Rows.{rows_of}
-use Rattle.gm_strategy.specs.Chosen.{chosen_of}
+use Rattle.gm_strategy.specs.Choice.{chosen_of}
 use Rattle.gm_program.specs.Question.{rows_read}
 use Rattle.gm_program.proofs.Planned.{few_read}
 use Rattle.gm_program.proofs.execute.counted.count_alone.Goals as goal

@@ -1,8 +1,8 @@
 use Rattle.std.proofs.Common.{◌≡◌, ◌∙◌, map, length, sym, ap, arith}
 use Rattle.gm_engine_rows.specs.Rows.{rows_of}
 use Rattle.gm_scan.specs.declared.found_rows.Keeping.TheVariants as keeping
-use Rattle.gm_strategy.specs.Chosen.{chosen_of}
-use Rattle.gm_program.specs.Finding.{tests_of}
+use Rattle.gm_strategy.specs.Choice.{chosen_of}
+use Rattle.gm_program.specs.Found.{tests_of}
 use Rattle.gm_program.specs.Question.{rows_examined}
 use Rattle.gm_program.proofs.Bound.{if_ok}
 use Rattle.gm_program.proofs.Kept.{kept_bound, kept_counts}

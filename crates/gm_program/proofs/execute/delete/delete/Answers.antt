@@ -1,6 +1,6 @@
 use Rattle.std.proofs.Common.{◌≡◌, Some, IfOk, ℕ, subst}
 use Rattle.std.specs.Prelude.{slice_get}
-use Rattle.gm_program.specs.Serving.{Executes}
+use Rattle.gm_program.specs.Serve.{Executes}
 use Rattle.gm_program.specs.Step.{delete_step}
 use Rattle.gm_program.proofs.Changing.{type_there, read_within}
 use Rattle.gm_program.proofs.execute.delete.delete.Goals as goal

@@ -6,7 +6,7 @@ use Rattle.gm_feature.specs.declared.feature.Feature.{Feature}
 use Rattle.gm_engine_rows.specs.State.{feature_at, changed_in}
 use Rattle.gm_engine_rows.specs.Rows.{rows_of}
 use Rattle.gm_script.specs.declared.reply.Reply.TheVariants as reply
-use Rattle.gm_program.specs.Serving.{Executes}
+use Rattle.gm_program.specs.Serve.{Executes}
 use Rattle.gm_program.specs.Step.{refused, row_of_one}
 use Rattle.gm_program.proofs.Changing.{holds_changed, rows_after, fewer, none_held}
 use Rattle.gm_program.proofs.execute.delete.delete_of.Goals as goal

@@ -1,11 +1,11 @@
 use Rattle.std.proofs.Common.{◌≡◌, ◌∙◌, Some, map, length, sym, ap, subst}
 use Rattle.std.specs.Prelude.{All}
-use Rattle.gm_filter.specs.Suits.{Suits}
+use Rattle.gm_filter.specs.Suitability.{Suits}
 use Rattle.gm_engine_rows.specs.State.{type_at}
 use Rattle.gm_script.specs.Order.{asked_by}
-use Rattle.gm_strategy.specs.Chosen.{IsServed, chosen_of}
+use Rattle.gm_strategy.specs.Choice.{IsServed, chosen_of}
 use Rattle.gm_program.specs.declared.execute.plan.Planned.{Planned}
-use Rattle.gm_program.specs.Planning.{IsPlanned}
+use Rattle.gm_program.specs.Plan.{IsPlanned}
 use Rattle.gm_program.specs.Question.{plan_lines}
 use Rattle.gm_program.specs.Step.{explained}
 use Rattle.gm_program.proofs.Questions.{asked_type, type_known, refused_reply, explain_reply}

@@ -2,11 +2,11 @@ use Rattle.std.proofs.Common.{◌≡◌, map, subst}
 use Rattle.gm_base.specs.Counter.{capped_sum}
 use Rattle.gm_engine_rows.specs.Rows.{rows_of}
 use Rattle.gm_script.specs.Order.{asked_by}
-use Rattle.gm_strategy.specs.Chosen.{chosen_of}
+use Rattle.gm_strategy.specs.Choice.{chosen_of}
 use Rattle.gm_program.specs.declared.execute.plan.Planned.{Planned}
 use Rattle.gm_program.specs.Collecting.{Collects}
-use Rattle.gm_program.specs.Finding.{tests_of}
-use Rattle.gm_program.specs.Planning.{IsPlanned}
+use Rattle.gm_program.specs.Found.{tests_of}
+use Rattle.gm_program.specs.Plan.{IsPlanned}
 use Rattle.gm_program.specs.Question.{rows_examined}
 use Rattle.gm_program.proofs.Exchanging.{answer_found}
 use Rattle.gm_program.proofs.execute.matched.matching.Goals as goal

@@ -5,7 +5,7 @@ use Rattle.gm_engine_rows.specs.Exchange.{exchanged_in, old_keys}
 use Rattle.gm_script.specs.Order.{Asked, asked_by}
 use Rattle.gm_program.specs.declared.execute.matched.Matched.{Matched}
 use Rattle.gm_program.specs.Limits.{has_too_many_rows}
-use Rattle.gm_program.specs.Matching.{IsAnswer, IsMatched}
+use Rattle.gm_program.specs.Matched.{IsAnswer, IsMatched}
 use Rattle.gm_program.specs.Question.{answer}
 use Rattle.gm_program.specs.Step.{plain, given, modified}
 use Rattle.gm_program.proofs.Changing.{true_from_not, false_from_not}

@@ -1,7 +1,7 @@
 use Rattle.std.proofs.Common.{◌∙◌, ap, sym, subst}
 use Rattle.gm_base.specs.Counter.{capped_sum}
 use Rattle.gm_filter.specs.Tree.{tree}
-use Rattle.gm_program.specs.Finding.{Finds}
+use Rattle.gm_program.specs.Found.{Finds}
 use Rattle.gm_program.proofs.Bound.{if_ok}
 use Rattle.gm_program.proofs.Planned.{on_ok}
 use Rattle.gm_program.proofs.execute.parts.read_part.Goals as goal

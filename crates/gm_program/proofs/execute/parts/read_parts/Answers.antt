@@ -4,9 +4,9 @@ use Rattle.std.proofs.lemmas.List.{take_all}
 use Rattle.gm_base.specs.Counter.{capped_sum}
 use Rattle.gm_engine_rows.specs.Rows.{rows_of}
 use Rattle.gm_filter.specs.Tree.{tree}
-use Rattle.gm_strategy.specs.Chosen.{chosen_of}
+use Rattle.gm_strategy.specs.Choice.{chosen_of}
 use Rattle.gm_program.specs.Collecting.{Collects}
-use Rattle.gm_program.specs.Finding.{tests_of}
+use Rattle.gm_program.specs.Found.{tests_of}
 use Rattle.gm_program.specs.Question.{rows_examined}
 use Rattle.gm_program.proofs.Collected.{collects_none, collects_more}
 use Rattle.gm_program.proofs.Planned.{are_named}

@@ -2,9 +2,9 @@ use Rattle.std.proofs.Common.{◌≡◌, take, map}
 use Rattle.gm_base.specs.Counter.{capped_sum}
 use Rattle.gm_engine_rows.specs.State.{State}
 use Rattle.gm_engine_rows.specs.Rows.{rows_of}
-use Rattle.gm_strategy.specs.Chosen.{chosen_of}
+use Rattle.gm_strategy.specs.Choice.{chosen_of}
 use Rattle.gm_program.specs.Collecting.{Collects}
-use Rattle.gm_program.specs.Finding.{tests_of}
+use Rattle.gm_program.specs.Found.{tests_of}
 use Rattle.gm_program.specs.Question.{rows_examined}
 use Rattle.gm_program.specs.Store.{IsTypeOf}
 use Rattle.gm_program.proofs.execute.parts.read_parts.Given as goal

@@ -5,7 +5,7 @@ use Rattle.std.proofs.lemmas.List.Elements.{recursion_from_All}
 use Rattle.std.specs.List.{flat_map}
 use Rattle.std.specs.String.{string_bytes}
 use Rattle.gm_feature.specs.Feature.{Fits}
-use Rattle.gm_rows.specs.Printing.{row_text}
+use Rattle.gm_rows.specs.Printer.{row_text}
 use Rattle.gm_script.specs.Reply.{row_line}
 use Rattle.gm_program.proofs.Printing.{line_more, row_at, same_count}
 use Rattle.gm_program.proofs.execute.printed.append_rows.Goals as goal

@@ -1,6 +1,6 @@
 use Rattle.std.proofs.Common.{◌≡◌, Some, IfOk, ℕ, subst}
 use Rattle.std.specs.Prelude.{slice_get}
-use Rattle.gm_program.specs.Serving.{Executes}
+use Rattle.gm_program.specs.Serve.{Executes}
 use Rattle.gm_program.specs.Step.{put_step}
 use Rattle.gm_program.proofs.Changing.{type_there, read_known}
 use Rattle.gm_program.proofs.execute.put.put.Goals as goal

@@ -8,7 +8,7 @@ use Rattle.gm_engine_rows.specs.State.{feature_at, changed_in}
 use Rattle.gm_engine_rows.specs.Rows.{rows_of}
 use Rattle.gm_script.specs.declared.reply.Reply.TheVariants as reply
 use Rattle.gm_program.specs.Limits.{has_too_many_rows}
-use Rattle.gm_program.specs.Serving.{Executes}
+use Rattle.gm_program.specs.Serve.{Executes}
 use Rattle.gm_program.specs.Step.{refused, row_of_one}
 use Rattle.gm_program.proofs.Changing.{holds_changed, rows_after, has_room_as_told, few_from_room}
 use Rattle.gm_program.proofs.Changing.{held_itself, length-puts, true_from_not, false_from_not}

@@ -1,13 +1,13 @@
 use Rattle.std.proofs.Common.{◌≡◌, ◌∙◌, Some, map, length, sym, ap, subst}
 use Rattle.std.specs.Prelude.{All}
-use Rattle.gm_filter.specs.Suits.{Suits}
+use Rattle.gm_filter.specs.Suitability.{Suits}
 use Rattle.gm_engine_rows.specs.State.{type_at}
 use Rattle.gm_script.specs.Order.{asked_by}
-use Rattle.gm_strategy.specs.Chosen.{IsServed, chosen_of}
+use Rattle.gm_strategy.specs.Choice.{IsServed, chosen_of}
 use Rattle.gm_program.specs.declared.execute.plan.Planned.{Planned}
-use Rattle.gm_program.specs.Planning.{IsPlanned}
+use Rattle.gm_program.specs.Plan.{IsPlanned}
 use Rattle.gm_program.specs.Collecting.{Counts}
-use Rattle.gm_program.specs.Finding.{tests_of}
+use Rattle.gm_program.specs.Found.{tests_of}
 use Rattle.gm_program.specs.Question.{rows_examined}
 use Rattle.gm_program.specs.Step.{counted}
 use Rattle.gm_program.specs.Store.{HasType, IsTypeOf}

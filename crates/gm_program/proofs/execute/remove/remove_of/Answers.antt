@@ -2,7 +2,7 @@ use Rattle.std.proofs.Common.{◌≡◌, ◌∙◌, None, subst}
 use Rattle.gm_filter.specs.Tree.{tree}
 use Rattle.gm_script.specs.Order.{Asked, asked_by}
 use Rattle.gm_program.specs.declared.execute.matched.Matched.{Matched}
-use Rattle.gm_program.specs.Matching.{IsAnswer, IsMatched}
+use Rattle.gm_program.specs.Matched.{IsAnswer, IsMatched}
 use Rattle.gm_program.specs.Step.{plain, removed}
 use Rattle.gm_program.proofs.Exchanging.{refused_plain, exchanges_fit, exchanges_apart, gives_none}
 use Rattle.gm_program.proofs.Exchanging.{remove_reply}

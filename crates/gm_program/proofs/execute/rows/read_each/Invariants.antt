@@ -2,8 +2,8 @@ use Rattle.std.proofs.Common.{◌≡◌, take, map}
 use Rattle.gm_base.specs.Counter.{capped_sum}
 use Rattle.gm_engine_rows.specs.State.{State}
 use Rattle.gm_engine_rows.specs.Rows.{rows_of}
-use Rattle.gm_strategy.specs.Chosen.{chosen_of}
-use Rattle.gm_program.specs.Finding.{tests_of}
+use Rattle.gm_strategy.specs.Choice.{chosen_of}
+use Rattle.gm_program.specs.Found.{tests_of}
 use Rattle.gm_program.specs.Kept.{AreKept}
 use Rattle.gm_program.specs.Question.{rows_examined}
 use Rattle.gm_program.specs.Store.{IsTypeOf}

@@ -1,7 +1,7 @@
 use Rattle.std.proofs.Common.{ap, arith, ◌∙◌}
 use Rattle.gm_filter.specs.Tree.{tree}
 use Rattle.gm_plan.specs.Spans.{spans_of}
-use Rattle.gm_strategy.specs.Chosen.{chosen_of}
+use Rattle.gm_strategy.specs.Choice.{chosen_of}
 use Rattle.gm_program.proofs.Bound.{if_ok}
 use Rattle.gm_program.proofs.Inside.{of_index_from}
 use Rattle.gm_program.proofs.Spans.{are_read}

@@ -1,6 +1,6 @@
 use Rattle.std.proofs.Common.{List, subst, sym, ◌∙◌, ap, length, arith}
 use Rattle.gm_types.specs.Specification.{Specification}
-use Rattle.gm_types.specs.Types.{AreTypes, number_of_name}
+use Rattle.gm_types.specs.TypeList.{AreTypes, number_of_name}
 use Rattle.gm_types.proofs.TypeLists.{types_push}
 use Rattle.gm_types.proofs.type_list.TypeList.push.Goals as goal
 

@@ -8,7 +8,7 @@ use Rattle.gm_calendar.specs.Spelling.{instant_text}
 use Rattle.gm_feature.specs.declared.feature.Feature.{Feature}
 use Rattle.gm_feature.specs.declared.value.Value.{Value}
 use Rattle.gm_feature.specs.declared.value.Value.TheVariants as value
-use Rattle.gm_wkt.specs.Printing as wkt
+use Rattle.gm_wkt.specs.Printer as wkt
 
 -- a comma, a double quote or 0x0D
 abbrev pub is_marked : ℕ → Bool

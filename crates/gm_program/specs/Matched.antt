@@ -9,7 +9,7 @@ use Rattle.gm_feature.specs.declared.value.Value.{Value}
 use Rattle.gm_ecql.specs.Outcome.{MayHold}
 use Rattle.gm_script.specs.Bins.{keeps_bins}
 use Rattle.gm_script.specs.Order.{Asked}
-use Rattle.gm_strategy.specs.Chosen.{Chosen}
+use Rattle.gm_strategy.specs.Choice.{Chosen}
 use Rattle.gm_strategy.specs.Plan.{plan_of}
 use Rattle.gm_program.specs.declared.execute.matched.Matched.{Matched}
 use Rattle.gm_program.specs.declared.execute.matched.Matched.TheVariants as matched

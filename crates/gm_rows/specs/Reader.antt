@@ -26,7 +26,7 @@ use Rattle.gm_types.specs.declared.kind.Kind.TheVariants as kind
 use Rattle.gm_types.specs.Specification.{Specification, kinds_of}
 use Rattle.gm_wkt.specs.declared.fault.WktFault.{WktFault}
 use Rattle.gm_wkt.specs.Answer.{answer_of}
-use Rattle.gm_rows.specs.Printing.{begins_with_mark}
+use Rattle.gm_rows.specs.Printer.{begins_with_mark}
 use Rattle.gm_rows.specs.declared.fault.RowFault.{RowFault}
 use Rattle.gm_rows.specs.declared.fault.RowFault.TheVariants as fault
 

@@ -5,7 +5,7 @@ use Rattle.gm_types.specs.declared.index.IndexKind.{IndexKind}
 use Rattle.gm_types.specs.declared.index.IndexKind.TheVariants.{Id}
 use Rattle.gm_types.specs.Index.{enabled_indexes}
 use Rattle.gm_types.specs.Specification.{Specification}
-use Rattle.gm_filter.specs.Suits.{Suits}
+use Rattle.gm_filter.specs.Suitability.{Suits}
 use Rattle.gm_filter.specs.Tree.{Tree, tree}
 use Rattle.gm_bounds.specs.Applicability.{does_apply}
 use Rattle.gm_strategy.specs.declared.part.Part.{Part}

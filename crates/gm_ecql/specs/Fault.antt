@@ -12,7 +12,7 @@ use Rattle.gm_ecql.specs.Change.{JudgedChange, SpellsChangeJudged}
 use Rattle.gm_ecql.specs.Grammar.{SpellsJudged}
 use Rattle.gm_ecql.specs.Judging.{NameFaults, Judged, faultless}
 use Rattle.gm_ecql.specs.Limits.{are_within, are_numbers_apart}
-use Rattle.gm_ecql.specs.Tokens.{Seen, SpellsTokens, unspaced}
+use Rattle.gm_ecql.specs.Token.{Seen, SpellsTokens, unspaced}
 
 -- the tokens are in the grammar, and stand for this
 pub record IsFilterOf (s : Specification) (ts : List (Bool × Seen)) (j : Judged) : Type 0 where

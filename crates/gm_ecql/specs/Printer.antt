@@ -7,7 +7,7 @@ use Rattle.gm_geom.specs.declared.geometry.Geometry.{Geometry}
 use Rattle.gm_geom.specs.declared.point.Box2.{Box2}
 use Rattle.gm_geom.specs.declared.point.Point.{Point}
 use Rattle.gm_geom.specs.Number.{fixed_text}
-use Rattle.gm_wkt.specs.Printing as wkt
+use Rattle.gm_wkt.specs.Printer as wkt
 use Rattle.gm_calendar.specs.Spelling.{instant_text}
 use Rattle.gm_types.specs.declared.attribute.Attribute.{Attribute}
 use Rattle.gm_types.specs.Specification.{Specification, names_of}
@@ -20,7 +20,7 @@ use Rattle.gm_filter.specs.Tree.{Tree, Trees, include, exclude, negated, all, an
 use Rattle.gm_filter.specs.Tree.{like, one_of, is_null, ids, bbox, intersects, disjoint, within}
 use Rattle.gm_filter.specs.Tree.{during, before, after, tequals, no_trees, tree_and}
 use Rattle.gm_ecql.specs.declared.keyword.Keyword.{Keyword}
-use Rattle.gm_ecql.specs.Tokens.{doubled}
+use Rattle.gm_ecql.specs.Token.{doubled}
 use Rattle.gm_ecql.specs.Words.{keyword_of}
 
 abbrev pub name_if : Option (List ℕ) → List ℕ

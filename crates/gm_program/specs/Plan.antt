@@ -3,7 +3,7 @@ use Rattle.std.specs.Prelude.{◌≡◌, true, map, List, Some}
 use Rattle.gm_types.specs.Specification.{Specification}
 use Rattle.gm_engine_rows.specs.State.{State}
 use Rattle.gm_script.specs.Order.{Asked}
-use Rattle.gm_strategy.specs.Chosen.{Chosen, chosen_of}
+use Rattle.gm_strategy.specs.Choice.{Chosen, chosen_of}
 use Rattle.gm_strategy.specs.Plan.{plan_of}
 use Rattle.gm_program.specs.declared.execute.plan.Planned.{Planned}
 use Rattle.gm_program.specs.declared.execute.plan.Planned.TheVariants as plan

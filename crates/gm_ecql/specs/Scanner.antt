@@ -10,9 +10,9 @@ use Rattle.gm_ecql.specs.declared.token.Symbol.{Symbol}
 use Rattle.gm_ecql.specs.declared.token.Symbol.TheVariants as symbol
 use Rattle.gm_ecql.specs.declared.keyword.Keyword.{Keyword}
 use Rattle.gm_ecql.specs.Words.{keyword_of}
-use Rattle.gm_ecql.specs.Tokens.{Seen, a_keyword, a_name, a_text, an_instant, a_number, a_symbol}
-use Rattle.gm_ecql.specs.Tokens.{is_blank, is_word_start, is_word_byte, is_no_double, is_sign}
-use Rattle.gm_ecql.specs.Tokens.{is_number_start, is_number_tail, undoubled}
+use Rattle.gm_ecql.specs.Token.{Seen, a_keyword, a_name, a_text, an_instant, a_number, a_symbol}
+use Rattle.gm_ecql.specs.Token.{is_blank, is_word_start, is_word_byte, is_no_double, is_sign}
+use Rattle.gm_ecql.specs.Token.{is_number_start, is_number_tail, undoubled}
 
 abbrev pub Found : Type 0
 Found = Option (Seen × List ℕ)

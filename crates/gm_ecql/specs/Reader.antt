@@ -16,7 +16,7 @@ use Rattle.gm_ecql.specs.Places.{keyword_place, symbol_place}
 use Rattle.gm_ecql.specs.Test.{Written, of_text, of_number, of_instant, of_truth, Sides, Question}
 use Rattle.gm_ecql.specs.Test.{in_box, related, compared, between, like, one_of, null, during}
 use Rattle.gm_ecql.specs.Test.{timed, Trial, include, exclude, ids, named}
-use Rattle.gm_ecql.specs.Tokens.{Seen, a_keyword, a_name, a_text, an_instant, a_number, a_symbol}
+use Rattle.gm_ecql.specs.Token.{Seen, a_keyword, a_name, a_text, an_instant, a_number, a_symbol}
 
 -- what is read at the front, and the tokens behind it
 abbrev pub Reader : Type 0 → Type 0

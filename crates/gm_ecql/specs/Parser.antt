@@ -8,8 +8,8 @@ use Rattle.gm_ecql.specs.declared.keyword.Keyword.TheVariants as keyword
 use Rattle.gm_ecql.specs.declared.token.Symbol.TheVariants as symbol
 use Rattle.gm_ecql.specs.Grammar.{Members, no_members, add_member, grouped, negated_of}
 use Rattle.gm_ecql.specs.Judging.{Judged, judged}
-use Rattle.gm_ecql.specs.Reading.{Reader, ◌>>=◌, or_else, after_keyword, after_symbol, test_at}
-use Rattle.gm_ecql.specs.Tokens.{Seen}
+use Rattle.gm_ecql.specs.Reader.{Reader, ◌>>=◌, or_else, after_keyword, after_symbol, test_at}
+use Rattle.gm_ecql.specs.Token.{Seen}
 
 -- the test at the front, as the type has it
 abbrev pub judged_at : Specification → Reader Judged

@@ -4,7 +4,7 @@ use Rattle.std.specs.List.{AllByRecursion}
 use Rattle.gm_feature.specs.declared.feature.Feature.{Feature}
 use Rattle.gm_filter.specs.Tree.{Tree}
 use Rattle.gm_filter.specs.Truth.{is_true}
-use Rattle.gm_strategy.specs.Chosen.{Chosen}
+use Rattle.gm_strategy.specs.Choice.{Chosen}
 use Rattle.gm_engine_rows.specs.State.{State, feature_at}
 
 -- the feature is one of these
