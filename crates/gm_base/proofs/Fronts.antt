@@ -8,6 +8,7 @@ use Rattle.std.specs.Cmp.{tied_itself}
 use Rattle.std.specs.Ordering.{nat_cmp, ordering_then}
 use Rattle.std.specs.Cmp.Lexicographic.{slice_cmp}
 use Rattle.std.specs.declared.cmp.Ordering.TheVariants.{Less, Equal, Greater}
+use Rattle.gm_base.proofs.Numbers.{is_less}
 use Rattle.gm_base.specs.Front.{first_of, rest_of, front_after, AreBytes, IsFront}
 
 -- of two numbers the smaller stays so, whatever bytes follow
@@ -23,9 +24,6 @@ equal_or_less e = cc
 
 greater_or_less : Greater ≡ Less → ⊥
 greater_or_less e = cc
-
-less_is : (x y : ℕ) → x < y → nat_cmp x y ≡ Less
-less_is x y below = grind (arith, nat_tests)
 
 never_less : (xs : List ℕ) {A : Type 0} → slice_cmp nat_cmp xs [] ≡ Less → A
 never_less [] e = absurd (equal_or_less e)
@@ -58,7 +56,7 @@ front-less (suc n) a (x ∷ xs) (y ∷ ys) bytes bytes' below =
           (sym same) below)
       | inr apart ↦ elim apart as
           (λ _. ordering_then (nat_cmp x y) (slice_cmp nat_cmp xs ys) ≡ Less) [
-            | inl less ↦ ap (λ o. ordering_then o (slice_cmp nat_cmp xs ys)) (less_is x y less)
+            | inl less ↦ ap (λ o. ordering_then o (slice_cmp nat_cmp xs ys)) (is_less x y less)
             | inr more ↦ let rises =
                 front-rises n (a * 256 + y) (a * 256 + x) ys xs bytes'.1 (omega (arith, more)) in
                 absurd (omega (arith, rises, below))

@@ -5,6 +5,7 @@ use Rattle.std.specs.Cmp.Lexicographic.{slice_cmp}
 use Rattle.std.specs.declared.cmp.Ordering.TheVariants.{Less}
 use Rattle.std.specs.List.{AllByRecursion}
 use Rattle.std.specs.Int.{to_be_bytes, w32}
+use Rattle.gm_table.specs.Blocks.{most_rows}
 use Rattle.gm_table.specs.declared.row.Row.{Row}
 use Rattle.gm_table.specs.Sorted.{IsRising}
 use Rattle.gm_block.specs.Parts.{rows_bytes, IsShort}
@@ -15,7 +16,7 @@ pair_of row = (row.key, row.bytes)
 -- 1 to 4,096 rows whose keys rise
 pub record IsBlock (rows : List Row) : Type 0 where
   pub some : 1 ≤ length rows
-  pub few : length rows ≤ 4096
+  pub few : length rows ≤ most_rows
   pub rising : IsRising (map pair_of rows)
   pub short : AllByRecursion IsShort rows
 

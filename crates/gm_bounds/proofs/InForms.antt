@@ -17,6 +17,7 @@ use Rattle.std.specs.declared.cmp.Ordering.TheVariants.{Less, Equal, Greater}
 use Rattle.std.specs.Cmp.Lexicographic.{slice_cmp}
 use Rattle.std.proofs.lemmas.Cmp.{nat_list_cmp_total, tied_itself}
 use lib.Utf8.{scalar, scalars, scalar_cases, encode, encodes, next}
+use Rattle.gm_base.proofs.Lists.{all_append}
 use Rattle.gm_base.specs.Identifier.{is_identifier, has_identifier_form}
 use Rattle.gm_calendar.specs.Instant.{is_instant}
 use Rattle.gm_lexi.specs.Lexicode.{int_bytes, long_bytes, date_bytes, bool_bytes, text_bytes}
@@ -73,11 +74,6 @@ long_bytes_small n =
     All-from_recursion (λ byte. byte < 256) (long_bytes n)
     (high_first_bytes 8 (bit_xor (cast_unsigned w64 n) (2 ^ 63)))
 
-all-append : {A : Type 0} (P : A → Type 0) (xs ys : List A) → AllByRecursion P xs
-    → AllByRecursion P ys → AllByRecursion P (xs ++ ys)
-all-append P [] ys h k = k
-all-append P (x ∷ xs) ys h k = (h.0, all-append P xs ys h.1 k)
-
 scalar_low : (c : ℕ) → scalar c ≡ true → c < 1114112
 scalar_low c h = ⊎_elim (λ l. omega (arith, l)) (λ r. r.1) (scalar_cases c h)
 
@@ -108,7 +104,7 @@ encode_small c h =
 encodes_small : (cs : List ℕ) → scalars cs ≡ true → AllByRecursion (λ byte. byte < 256) (encodes cs)
 encodes_small [] h = tt
 encodes_small (c ∷ cs) h = let parts = and_parts (scalar c) (scalars cs) h in
-    all-append (λ byte. byte < 256) (encode c) (encodes cs) (encode_small c parts.0)
+    all_append (λ byte. byte < 256) (encode c) (encodes cs) (encode_small c parts.0)
     (encodes_small cs parts.1)
 
 utf8_small : (t : Bytes) → IsUtf8 t → AllByRecursion (λ byte. byte < 256) t
@@ -123,7 +119,7 @@ identifier_small id h =
 pub text_bytes_small : (t : Bytes) → IsUtf8 t → AreBytes (text_bytes t)
 text_bytes_small t u =
     All-from_recursion (λ byte. byte < 256) (text_bytes t)
-    (all-append (λ byte. byte < 256) t (0 ∷ []) (utf8_small t u) (omega arith, tt))
+    (all_append (λ byte. byte < 256) t (0 ∷ []) (utf8_small t u) (omega arith, tt))
 
 -- ---- numbers that fit
 

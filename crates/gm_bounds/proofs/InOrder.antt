@@ -7,6 +7,7 @@ use Rattle.std.specs.Ordering.{nat_cmp, is_le, is_lt, is_gt, ordering_reverse}
 use Rattle.std.specs.declared.cmp.Ordering.{Ordering}
 use Rattle.std.specs.declared.cmp.Ordering.TheVariants.{Less, Equal, Greater}
 use Rattle.std.specs.Cmp.Lexicographic.{slice_cmp}
+use Rattle.gm_base.proofs.Numbers.{le_of_not_gt, lt_is_le}
 use Rattle.gm_lexi.specs.Ends.{is_before, is_from_to}
 use Rattle.gm_bounds.specs.declared.byte_range.ByteRange.{ByteRange}
 use Rattle.gm_bounds.specs.ByteRange.{met, joined, is_void, is_void_to, is_less, less, greater}
@@ -28,14 +29,9 @@ le_not_gt Less h = refl
 le_not_gt Equal h = refl
 le_not_gt Greater h = absurd (true≢false (sym h))
 
-not_gt_le : (o : Ordering) → is_gt o ≡ false → is_le o ≡ true
-not_gt_le Less h = refl
-not_gt_le Equal h = refl
-not_gt_le Greater h = absurd (true≢false h)
-
 pub le_trans : (a b c : Bytes) → le a b ≡ true → le b c ≡ true → le a c ≡ true
 le_trans a b c h g =
-    not_gt_le (C a c) (upto nat_list_cmp_total a b c (le_not_gt (C a b) h) (le_not_gt (C b c) g))
+    le_of_not_gt (C a c) (upto nat_list_cmp_total a b c (le_not_gt (C a b) h) (le_not_gt (C b c) g))
 
 turned : (o : Ordering) → is_le o ≡ false → is_le (ordering_reverse o) ≡ true
 turned Less h = absurd (true≢false h)
@@ -49,11 +45,6 @@ not_lt_le Greater h = refl
 
 pub not_less : (a b : Bytes) → is_less a b ≡ false → le b a ≡ true
 not_less a b h = ap is_le (nat_list_cmp_total.antisymm b a) ∙ not_lt_le (C a b) h
-
-lt_is_le : (o : Ordering) → is_lt o ≡ true → is_le o ≡ true
-lt_is_le Less h = refl
-lt_is_le Equal h = absurd (true≢false (sym h))
-lt_is_le Greater h = absurd (true≢false (sym h))
 
 -- ---- ends
 

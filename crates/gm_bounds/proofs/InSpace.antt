@@ -4,6 +4,8 @@ use Rattle.std.proofs.Common.{◌∙◌, true≢false, Option, Some, None, arith
 use Rattle.std.proofs.lemmas.Bool.{and_parts, and_from}
 use Rattle.std.proofs.lemmas.Int.{ints, clamps}
 use Rattle.std.specs.Prelude.{ℤ, int_le, int_lt, ◌≤ℤ◌, is_none, IsSome, option_and_then}
+use Rattle.gm_base.proofs.Numbers.{le_from, le_to}
+use Rattle.gm_base.proofs.Options.{none_is}
 use Rattle.gm_geom.specs.declared.point.Point.{Point}
 use Rattle.gm_geom.specs.declared.point.Box2.{Box2}
 use Rattle.gm_geom.specs.declared.geometry.Geometry.{Geometry}
@@ -26,7 +28,8 @@ use Rattle.gm_feature.specs.declared.value.Value.{Value}
 use Rattle.gm_feature.specs.declared.value.Value.TheVariants as value
 use Rattle.gm_feature.specs.Feature.{Fits, value_at}
 use Rattle.gm_feature.specs.Value.{value_fits, is_of_kind}
-use Rattle.gm_filter.specs.Suitability.{Suits, passes_kind, is_box, is_kept, has_area, is_point_kind}
+use Rattle.gm_filter.specs.Suitability.{Suits, passes_kind, is_box, is_kept, has_area}
+use Rattle.gm_filter.specs.Suitability.{is_point_kind}
 use Rattle.gm_filter.specs.Tree.{Tree, bbox, intersects, within}
 use Rattle.gm_filter.specs.Trial.{IsKeptValue}
 use Rattle.gm_filter.specs.Truth.{is_true, meets, is_within}
@@ -52,16 +55,6 @@ pub record SpaceLaws : Type 0 where
       → do_intersect (geo.Point p) area ≡ true
   pub values : (t : Specification) (f : Feature) (n : ℕ) (k : Kind) → Fits t f
       → kind_at t n ≡ Some k → value_fits k (value_at f n) ≡ true
-
-none_is : {A : Type 0} (o : Option A) → is_none o ≡ true → o ≡ None
-none_is None h = refl
-none_is (Some x) h = absurd (true≢false (sym h))
-
-le_from : (m n : ℤ) → int_le m n ≡ true → m ≤ℤ n
-le_from m n h = omega (arith, ints, h)
-
-le_to : (m n : ℤ) → m ≤ℤ n → int_le m n ≡ true
-le_to m n h = sym (omega (arith, ints, h))
 
 -- ---- boxes
 

@@ -11,6 +11,7 @@ use Rattle.std.specs.List.{list_any}
 use Rattle.std.specs.Ordering.{int_cmp, MatchOrdering}
 use Rattle.std.specs.declared.cmp.Ordering.{Ordering}
 use Rattle.std.specs.declared.cmp.Ordering.TheVariants.{Less, Equal, Greater}
+use Rattle.gm_base.proofs.Numbers.{le_from, le_to}
 use Rattle.gm_types.specs.Specification.{Specification, default_date_of}
 use Rattle.gm_feature.specs.declared.feature.Feature.{Feature}
 use Rattle.gm_feature.specs.declared.value.Value.{Value}
@@ -37,12 +38,6 @@ use Rattle.gm_bounds.specs.Intervals.{instants_of}
 use Rattle.gm_bounds.specs.Lists.{listed}
 use Rattle.gm_bounds.proofs.Sound.{Widens, Narrows, AreFull, IsSoundFor, meeting_finds}
 use Rattle.gm_bounds.proofs.Sound.{capped_finds, single_finds, listed_finds, on_finds, found}
-
-le_from : (m n : ℤ) → int_le m n ≡ true → m ≤ℤ n
-le_from m n h = omega (arith, ints, h)
-
-le_to : (m n : ℤ) → m ≤ℤ n → int_le m n ≡ true
-le_to m n h = sym (omega (arith, ints, h))
 
 -- ---- ends
 

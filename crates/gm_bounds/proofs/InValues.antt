@@ -11,6 +11,7 @@ use Rattle.std.specs.Ordering.{ordering_reverse}
 use Rattle.std.specs.declared.cmp.Ordering.{Ordering}
 use Rattle.std.specs.declared.cmp.Ordering.TheVariants.{Less, Equal, Greater}
 use Rattle.std.specs.Cmp.Lexicographic.{slice_cmp, bytes_decides}
+use Rattle.gm_base.proofs.Numbers.{lt_is_le}
 use Rattle.gm_lexi.specs.Ends.{after_of, is_before, is_from_to}
 use Rattle.gm_filter.specs.declared.filter.Op.{Op}
 use Rattle.gm_filter.specs.declared.filter.Op.TheVariants.{Eq, Ne, Lt, Le, Gt, Ge}
@@ -68,11 +69,6 @@ eq_is Greater h = absurd (true≢false (sym h))
 -- what compares as equal is the same
 pub same_bytes : (a b : Bytes) → is_eq (C a b) ≡ true → a ≡ b
 same_bytes a b h = (bytes_decides a b).0 (sym (is_eq-slice_cmp a b) ∙ h)
-
-le_from_lt : (o : Ordering) → is_lt o ≡ true → is_le o ≡ true
-le_from_lt Less h = refl
-le_from_lt Equal h = refl
-le_from_lt Greater h = absurd (true≢false (sym h))
 
 ge_back : (o : Ordering) → is_ge o ≡ true → is_le (ordering_reverse o) ≡ true
 ge_back Less h = absurd (true≢false (sym h))
@@ -195,7 +191,7 @@ module _ (laws : EndLaws) (z more : Bytes) (bytes : AreBytes (z ++ more)) where
       → is_before (after_of form) whole ≡ true
   to_after form order Less is h =
       below_after laws form whole bytes
-      (le_from_lt (C whole form) (whole_lt form order (ap is_lt is)))
+      (lt_is_le (C whole form) (whole_lt form order (ap is_lt is)))
   to_after form order Equal is h =
       let same = ap (λ x. x ++ more) (same_bytes z form (ap is_eq is)) in
       (and_parts (le form whole) (is_before (after_of form) whole)

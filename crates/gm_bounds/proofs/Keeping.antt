@@ -2,6 +2,7 @@
 use Rattle.std.proofs.Common.{◌≡◌, true, ◌&&◌, refl, sym, Option, Some, None, true≢false}
 use Rattle.std.proofs.lemmas.Bool.{and_parts}
 use Rattle.std.specs.Prelude.{is_none}
+use Rattle.gm_base.proofs.Options.{none_is}
 use Rattle.gm_geom.specs.Validity.{fault_of}
 use Rattle.gm_types.specs.Specification.{Specification}
 use Rattle.gm_filter.specs.Suitability.{Suits, suits, all_suit, is_kept, has_area}
@@ -9,10 +10,6 @@ use Rattle.gm_filter.specs.Tree.{Tree, Trees, include, exclude, negated, all, an
 use Rattle.gm_filter.specs.Tree.{like, one_of, is_null, ids, bbox, intersects, disjoint, within}
 use Rattle.gm_filter.specs.Tree.{during, before, after, tequals, no_trees, tree_and}
 use Rattle.gm_bounds.specs.Kept.{HasKept, AllHaveKept}
-
-none_is : {A : Type 0} (o : Option A) → is_none o ≡ true → o ≡ None
-none_is None h = refl
-none_is (Some x) h = absurd (true≢false (sym h))
 
 mutual
   pub has_kept : (s : Specification) (t : Tree) → Suits s t → HasKept t

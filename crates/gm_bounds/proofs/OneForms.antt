@@ -24,6 +24,7 @@ use Rattle.std.specs.Option.{option_eq}
 use Rattle.byteorder.specs.Endian.{big_bytes, big_from}
 use Rattle.byteorder.specs.Numbers.{big_from-cons, big_from-lt, big_number-reads_back}
 use Rattle.byteorder.specs.Numbers.{length-bytes_high_first}
+use Rattle.gm_base.proofs.Numbers.{le_from, le_to, pow256}
 use Rattle.gm_calendar.specs.Instant.{IsInstant, is_instant}
 use Rattle.gm_lexi.specs.Ends.{after_of}
 use Rattle.gm_lexi.specs.Lexicode.{int_bytes, long_bytes, date_bytes, bool_bytes, text_bytes}
@@ -37,12 +38,6 @@ use Rattle.gm_bounds.specs.OneValue.{is_of_one_value}
 use Rattle.gm_bounds.proofs.InForms.{high_first_bytes}
 use Rattle.gm_bounds.proofs.InOrder.{Bytes}
 
-le_from : (m n : ℤ) → int_le m n ≡ true → m ≤ℤ n
-le_from m n h = omega (arith, ints, h)
-
-le_to : (m n : ℤ) → m ≤ℤ n → int_le m n ≡ true
-le_to m n h = sym (omega (arith, ints, h))
-
 -- what gm_lexi says of numbers by their places
 pub record PlaceLaws : Type 0 where
   pub ints : (value : ℤ) (place : ℕ) → FitsSigned w32 value → pos place ≡ value +ℤ pos (2 ^ 31)
@@ -55,12 +50,6 @@ pub record PlaceLaws : Type 0 where
 byte_at-pow : (k n : ℕ) → byte_at k n ≡ n / 256 ^ k % 256
 byte_at-pow zero n = ap (λ (x : ℕ). x % 256) (sym (div-one n))
 byte_at-pow (suc k) n = refl
-
-pow256 : (k : ℕ) → 256 ^ k ≡ 2 ^ (8 * k)
-pow256 zero = refl
-pow256 (suc k) =
-    let eight : 8 * suc k ≡ 8 * k + 8 = omega arith in
-    rw (pow-suc 256 k, pow256 k, eight, pow-add 2 (8 * k) 8) refl
 
 -- the highest of k + 1 bytes, and what the others say
 split : (k n : ℕ) → n % 256 ^ suc k ≡ byte_at k n * 256 ^ k + n % 256 ^ k

@@ -1,10 +1,11 @@
 -- The date at the front of a printed instant.
 use Rattle.std.proofs.Common.{◌≡◌, ℕ, true, [], ◌∷◌, ◌++◌, take, ◌/◌, ◌%◌, ◌<◌, refl, ap, ◌∙◌}
 use Rattle.std.proofs.Common.{arith, ℤ}
+use Rattle.gm_base.proofs.Numbers.{digit_of}
 use Rattle.gm_calendar.specs.Instant.{day_ms, IsInstant}
 use Rattle.gm_calendar.specs.Spelling.{date_text, time_text, ms_since_0000, instant_text}
 use Rattle.gm_calendar.specs.Spelling.{has_date_form}
-use Rattle.gm_calendar.proofs.RoundTrip.{is_digit, printed}
+use Rattle.gm_calendar.proofs.RoundTrip.{printed}
 
 -- a date of four, two and two digits
 date_form : (year month day : ℕ) → year < 10_000 → month < 100 → day < 100
@@ -12,14 +13,14 @@ date_form : (year month day : ℕ) → year < 10_000 → month < 100 → day < 1
 unfolding date_text
 date_form year month day y m d =
     rw (
-      is_digit (year / 100 / 10) (omega arith),
-      is_digit (year / 100 % 10) (omega arith),
-      is_digit (year % 100 / 10) (omega arith),
-      is_digit (year % 100 % 10) (omega arith),
-      is_digit (month / 10) (omega arith),
-      is_digit (month % 10) (omega arith),
-      is_digit (day / 10) (omega arith),
-      is_digit (day % 10) (omega arith),
+      digit_of (year / 100 / 10) (omega arith),
+      digit_of (year / 100 % 10) (omega arith),
+      digit_of (year % 100 / 10) (omega arith),
+      digit_of (year % 100 % 10) (omega arith),
+      digit_of (month / 10) (omega arith),
+      digit_of (month % 10) (omega arith),
+      digit_of (day / 10) (omega arith),
+      digit_of (day % 10) (omega arith),
     ) refl
 
 pub begins_with_date : (at : ℤ) → IsInstant at → has_date_form (take 10 (instant_text at)) ≡ true

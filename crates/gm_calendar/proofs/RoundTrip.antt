@@ -6,6 +6,7 @@ use Rattle.std.proofs.lemmas.Bool.Decides.{nat_tests}
 use Rattle.std.proofs.lemmas.Int.{ints}
 use Rattle.jiff_core.specs.Calendar.{days_from_civil}
 use Rattle.jiff_core.proofs.CalendarLemmas.{days_in_month_bounds}
+use Rattle.gm_base.proofs.Numbers.{digit_of}
 use Rattle.gm_calendar.proofs.Prints.{DateOf, date_of_number, day_text-date}
 use Rattle.jiff_core.proofs.SignedLemmas.{signed_arith, one_part}
 use Rattle.gm_calendar.specs.Calendar.{days_of_month}
@@ -16,13 +17,10 @@ use Rattle.gm_calendar.specs.Spelling.{behind_date, instant_from, instant_of, tw
 use Rattle.gm_calendar.specs.Spelling.{second_text, time_text, ms_since_0000, instant_text}
 use Rattle.gm_calendar.proofs.Dates.{is_date-true}
 
-pub is_digit : (n : ℕ) → n < 10 → is_ascii_digit (48 + n) ≡ true
-is_digit n h = grind (arith, nat_tests)
-
 pub number_of-two : (n : ℕ) → n < 100 → number_of (two_digits n) ≡ Some n
 number_of-two n h =
     let value : (0 * 10 + (48 + n / 10 - 48)) * 10 + (48 + n % 10 - 48) ≡ n = omega arith in
-    rw (is_digit (n / 10) (omega arith), is_digit (n % 10) (omega arith)) (ap Some value)
+    rw (digit_of (n / 10) (omega arith), digit_of (n % 10) (omega arith)) (ap Some value)
 
 pub number_of-four : (n : ℕ) → n < 10_000
     → number_of (two_digits (n / 100) ++ two_digits (n % 100)) ≡ Some n
@@ -30,10 +28,10 @@ number_of-four n h =
     let value : (((0 * 10 + (48 + n / 100 / 10 - 48)) * 10 + (48 + n / 100 % 10 - 48)) * 10
     + (48 + n % 100 / 10 - 48)) * 10 + (48 + n % 100 % 10 - 48) ≡ n = omega arith in
     rw (
-      is_digit (n / 100 / 10) (omega arith),
-      is_digit (n / 100 % 10) (omega arith),
-      is_digit (n % 100 / 10) (omega arith),
-      is_digit (n % 100 % 10) (omega arith),
+      digit_of (n / 100 / 10) (omega arith),
+      digit_of (n / 100 % 10) (omega arith),
+      digit_of (n % 100 / 10) (omega arith),
+      digit_of (n % 100 % 10) (omega arith),
     )
     (ap Some value)
 
@@ -68,9 +66,9 @@ fraction_read ms =
     let value : (48 + ms % 1_000 / 100 - 48) * 100 + (48 + ms % 100 / 10 - 48) * 10
     + (48 + ms % 100 % 10 - 48) + 0 ≡ ms % 1_000 = omega arith in
     rw (
-      is_digit (ms % 1_000 / 100) (omega arith),
-      is_digit (ms % 100 / 10) (omega arith),
-      is_digit (ms % 100 % 10) (omega arith),
+      digit_of (ms % 1_000 / 100) (omega arith),
+      digit_of (ms % 100 / 10) (omega arith),
+      digit_of (ms % 100 % 10) (omega arith),
     ) (ap (λ (n : ℕ). Some (pos n)) value)
 
 second_text_read : (ms : ℕ) → ms < 60_000

@@ -17,7 +17,8 @@ use Rattle.jiff_core.proofs.SignedLemmas.{signed_arith}
 use Rattle.gm_calendar.specs.Calendar.{days_of_month}
 use Rattle.gm_calendar.specs.Instant.{day_ms, second_ms, minute_ms, ms_before_1970, last_instant}
 use Rattle.gm_calendar.specs.Instant.{IsInstant, is_instant, instant_at}
-use Rattle.gm_calendar.specs.Spelling.{next_digit, number_of, is_date, date_at, date_of, clock_at}
+use Rattle.gm_calendar.specs.Spelling.{number_of, is_date, date_at, date_of, clock_at}
+use Rattle.gm_base.specs.Ascii.{next_digit}
 use Rattle.gm_calendar.specs.Spelling.{clock_of, second_at, second_of, digit_at, fraction_of}
 use Rattle.gm_calendar.specs.Spelling.{negative_of, zone_of, sum_of, behind_seconds, behind_minutes}
 use Rattle.gm_calendar.specs.Spelling.{behind_date, instant_from, instant_of, instant_text}

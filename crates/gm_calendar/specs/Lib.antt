@@ -1,5 +1,4 @@
 pub mod Bin
-pub mod Bytes
 pub mod Calendar
 pub mod Extent
 pub mod Instant

@@ -6,11 +6,11 @@ use Rattle.std.specs.Prelude.{take, fold, ℤ, pos, neg_ℤ, ◌+ℤ◌, ◌*ℤ
 use Rattle.std.specs.Char.{is_ascii_digit}
 use Rattle.std.specs.List.{list_all}
 use Rattle.jiff_core.specs.Calendar.{days_from_civil}
-use Rattle.gm_calendar.specs.Bytes.{plus_sign, minus_sign, decimal_point, digit_zero, colon}
-use Rattle.gm_calendar.specs.Bytes.{letter_t, letter_z}
+use Rattle.gm_base.specs.Ascii.{plus_sign, minus_sign, decimal_point, digit_zero, colon}
+use Rattle.gm_base.specs.Ascii.{letter_t, letter_z}
 use Rattle.gm_calendar.specs.Calendar.{days_of_month}
 use Rattle.gm_calendar.specs.Instant.{day_ms, second_ms, minute_ms, IsInstant}
-use Rattle.gm_calendar.specs.Spelling.{next_digit}
+use Rattle.gm_base.specs.Ascii.{next_digit}
 
 -- so many digits, which write that number
 pub record SpellsDigits (count : ℕ) (text : List ℕ) (n : ℕ) : Type 0 where

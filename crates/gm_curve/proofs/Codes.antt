@@ -6,6 +6,7 @@ use Rattle.std.specs.Int.{bit_at}
 use Rattle.std.proofs.lemmas.Grind.{common_steps}
 use Rattle.std.proofs.lemmas.Nat.{pow_pos, pow-add, one_shl, div-mul-add, mul-le}
 use Rattle.std.proofs.Math.Nat.{pow-le-pow_right, mul-le-mul_left}
+use Rattle.gm_base.proofs.Numbers.{two_at_least}
 use Rattle.gm_curve.specs.Curve.{bits_at}
 use Rattle.gm_curve.specs.Listing.{sequence_count, IsSequence}
 use Rattle.gm_curve.specs.Xz.{sequence_of}
@@ -28,10 +29,6 @@ geometric D (suc g) =
     product_of_sum (2 ^ D) (2 ^ D - 1) (sequence_count D g) (2 ^ (D * (g + 1))) whole
     (geometric D g) ∙ sym (ap (λ n. 2 ^ n) e ∙ pow-add 2 D (D * (g + 1)))
 
-pub some_width : (D : ℕ) → 1 ≤ D → 2 ≤ 2 ^ D
-some_width D some = let most : 2 ^ 1 ≤ 2 ^ D = pow-le-pow_right (omega arith) some in
-    omega (arith, most)
-
 pub shifted_one : (D places : ℕ) → D ≤ 3 → places ≤ 16
     → 1 * 2 ^ (D * places) % 2 ^ 64 ≡ 2 ^ (D * places)
 shifted_one D places few most = let fits : D * places ≤ 48 = mul-le D places 3 16 few most in
@@ -47,13 +44,13 @@ count_closed D places some least =
     omega (arith, sum) in
     ap (λ n. n / (2 ^ D - 1)) product
     ∙ div-mul-add (sequence_count D (places - 1)) (2 ^ D - 1) 0
-    (omega (arith, some_width D some))
+    (omega (arith, two_at_least D some))
 
 pub count_fits : (D g : ℕ) → 1 ≤ D → D ≤ 3 → g ≤ 16 → sequence_count D g < 2 ^ 63
 count_fits D g some few most =
     let fits : D * (g + 1) ≤ 51 = mul-le D (g + 1) 3 17 few (omega arith) in
     let small : 2 ^ (D * (g + 1)) ≤ 2 ^ 51 = pow-le-pow_right (omega arith) fits in
-    let wide : 1 ≤ 2 ^ D - 1 = omega (arith, some_width D some) in
+    let wide : 1 ≤ 2 ^ D - 1 = omega (arith, two_at_least D some) in
     let product : sequence_count D g * 1 ≤ sequence_count D g * (2 ^ D - 1) =
     mul-le-mul_left (sequence_count D g) wide in
     omega (arith, small, product, geometric D g)

@@ -2,6 +2,7 @@
 use Rattle.std.proofs.Common.{◌≡◌, ℕ, Bool, true, false, cond, List, [], ◌∷◌, Option, Some, None}
 use Rattle.std.proofs.Common.{refl, sym, ap, ◌∙◌, subst, ◌⊎◌, inl, inr}
 use Rattle.std.specs.Prelude.{Result, Ok, Err}
+use Rattle.gm_base.proofs.Booleans.{not_both}
 use Rattle.gm_ecql.specs.declared.fault.FilterFault.{FilterFault}
 use Rattle.gm_ecql.specs.declared.fault.FilterFault.TheVariants as fault
 use Rattle.gm_ecql.specs.Fault.{IsOutOfGrammar, IsSyntaxFault, IsLimitFault, StandsFor, HasUnknown}
@@ -32,9 +33,6 @@ no_err x e h = absurd (cc)
 no_faults : (f : NameFaults) → f.unknown ≡ None → f.bad ≡ None → f ≡ faultless
 no_faults f u b =
     ap (λ z. record { unknown = z; bad = f.bad }) u ∙ ap (λ z. record { unknown = None; bad = z }) b
-
-not_both : {P : Type 0} (b : Bool) → b ≡ true → b ≡ false → P
-not_both b t f = let e : true ≡ false = sym t ∙ f in absurd (cc)
 
 module _ {J A : Type 0} (parsed : List Seen → Option J) (faults : J → NameFaults) (meaning : J → A)
     (IsOf : List (Bool × Seen) → J → Type 0)

@@ -1,6 +1,7 @@
 -- A change that has no fault assigns a value that its attribute may hold.
 use Rattle.std.proofs.Common.{◌≡◌, ℕ, Bool, true, false, cond, List, Option, Some, None, option_map}
 use Rattle.std.proofs.Common.{option_and_then, refl, sym, ap, ◌∙◌, subst}
+use Rattle.gm_base.proofs.Options.{same_some, no_some, map_some}
 use Rattle.gm_types.specs.declared.kind.Kind.{Kind}
 use Rattle.gm_types.specs.Specification.{Specification, place_of_name, kind_at}
 use Rattle.gm_feature.specs.declared.value.Value.{Value}
@@ -14,12 +15,6 @@ use Rattle.gm_ecql.specs.Parser.{document}
 use Rattle.gm_ecql.specs.Reader.{◌>>=◌}
 use Rattle.gm_ecql.specs.Token.{Seen}
 
-same_some : {A : Type 0} (x y : A) → Some x ≡ Some y → x ≡ y
-same_some x y e = cc
-
-no_some : {A P : Type 0} (x : A) → ◌≡◌ {A = Option A} None (Some x) → P
-no_some x e = absurd (cc)
-
 some_none : {A P : Type 0} (x : A) → ◌≡◌ {A = Option A} (Some x) None → P
 some_none x e = absurd (cc)
 
@@ -27,11 +22,6 @@ bound : {A B : Type 0} (o : Option A) (f : A → Option B) (y : B) → (o >>= f)
     → (x : A) × (o ≡ Some x) × (f x ≡ Some y)
 bound None f y e = no_some y e
 bound (Some x) f y e = (x, refl, e)
-
-mapped : {A B : Type 0} (f : A → B) (o : Option A) (y : B) → option_map f o ≡ Some y
-    → (x : A) × (o ≡ Some x) × (f x ≡ y)
-mapped f None y e = no_some y e
-mapped f (Some x) y e = (x, refl, same_some (f x) y e)
 
 no_name : (earlier later : Option (List ℕ)) → first_name earlier later ≡ None → earlier ≡ None
 no_name None later e = refl
@@ -46,7 +36,7 @@ place_kind : (s : Specification) (o : Option ℕ) (p : ℕ × Kind)
     → kind_at s p.0 ≡ Some p.1
 place_kind s None p e = no_some p e
 place_kind s (Some a) p e =
-    let m = mapped (λ k. (a, k)) (kind_at s a) p e in
+    let m = map_some (λ k. (a, k)) (kind_at s a) p e in
     subst (λ z. kind_at s z.0 ≡ Some z.1) m.2 m.1
 
 fitting : (s : Specification) (k : Kind) (name : List ℕ) (a : ℕ) (v : Value) (x : Assignment)
@@ -80,7 +70,7 @@ placed : (s : Specification) (name : List ℕ) (n : New) (o : Option (ℕ × Kin
 placed s name n None x is e known clean =
     faultless_not name x.faults.unknown (unknown_is (is_new_spelled n) name x e) known
 placed s name n (Some p) x is e known clean =
-    let m = mapped (kept_value p.1 name p.0) (new_value p.1 n) x e in
+    let m = map_some (kept_value p.1 name p.0) (new_value p.1 n) x e in
     valued s p.1 name p.0 m.0 x (place_kind s (place_of_name s name) p is) m.2 clean
 
 pub change_holds : (s : Specification) (ts : List Seen) (c : JudgedChange)

@@ -1,6 +1,7 @@
 -- The exits of the parser of changes.
 use Rattle.std.proofs.Common.{◌≡◌, ℕ, Bor, List, Option, Some, None, option_map, refl, sym, ◌∙◌, ap}
 use Rattle.std.proofs.Common.{subst}
+use Rattle.gm_base.proofs.Options.{no_some}
 use Rattle.gm_types.specs.Specification.{Specification}
 use Rattle.gm_ecql.specs.declared.halt.Halt.{Halt}
 use Rattle.gm_ecql.specs.declared.halt.Halt.TheVariants as halt
@@ -14,7 +15,6 @@ use Rattle.gm_ecql.specs.Judging.{NameFaults, Judged, first_faults}
 use Rattle.gm_ecql.specs.Parser.{document}
 use Rattle.gm_ecql.specs.Token.{Seen, seen_all}
 use Rattle.gm_ecql.proofs.ChangesRead.{change_complete}
-use Rattle.gm_ecql.proofs.TestFirst.{no_some}
 
 -- what the code has at the front, as it is wanted
 abbrev pub front_seen : Bor (List ℕ) × Given × Bor (List Spaced) → List ℕ × (New × List Seen)

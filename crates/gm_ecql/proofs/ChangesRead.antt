@@ -3,6 +3,9 @@ use Rattle.std.proofs.Common.{◌≡◌, ℕ, zero, suc, Bool, true, false, ◌=
 use Rattle.std.proofs.Common.{length, Option, Some, None, option_map, refl, sym, ◌∙◌, ap, subst}
 use Rattle.std.proofs.Common.{append_assoc, append-nil, ◌⊎◌, inl, inr}
 use Rattle.std.specs.List.{list_all}
+use Rattle.gm_base.proofs.Booleans.{both_of}
+use Rattle.gm_base.proofs.Options.{no_some}
+use Rattle.gm_base.proofs.Booleans.{not_both}
 use Rattle.gm_types.specs.Specification.{Specification}
 use Rattle.gm_filter.specs.Suitability.{Suits}
 use Rattle.gm_ecql.specs.declared.keyword.Keyword.{Keyword}
@@ -22,8 +25,7 @@ use Rattle.gm_ecql.specs.Words.{begins_geometry}
 use Rattle.gm_ecql.proofs.Places.{same_keyword}
 use Rattle.gm_ecql.proofs.Readers.{keyword_first, keyword_found, name_first}
 use Rattle.gm_ecql.proofs.Sound.{chosen}
-use Rattle.gm_ecql.proofs.Scans.{both}
-use Rattle.gm_ecql.proofs.TestFirst.{some_is, no_some, bound, mapped, chose, constant_first}
+use Rattle.gm_ecql.proofs.TestFirst.{some_is, bound, mapped, chose, constant_first}
 use Rattle.gm_ecql.proofs.TestFound.{constant_found, piece_more}
 use Rattle.gm_ecql.proofs.TestSound.{piece_there}
 use Rattle.gm_ecql.proofs.GrammarFound.{document_complete}
@@ -48,9 +50,6 @@ new_there ts r h = elim (chose (constant_at ts) _ _ _ h) [
   ]
 ]
 
-true_false : {P : Type 0} (b : Bool) → b ≡ true → b ≡ false → P
-true_false b e f = absurd (cc)
-
 other_word : (w k : Keyword) (rest : List Seen) → begins_geometry w ≡ false
     → begins_geometry k ≡ true
     → after_keyword w (a_keyword k ∷ rest) ≡ None
@@ -58,7 +57,7 @@ other_word w k rest e f = by_place (keyword_place k == keyword_place w) refl
   where
     by_place : (x : Bool) → (keyword_place k == keyword_place w) ≡ x
         → cond x (Some rest) None ≡ None
-    by_place true p = true_false (begins_geometry k) f (ap begins_geometry (same_keyword k w p) ∙ e)
+    by_place true p = not_both (begins_geometry k) f (ap begins_geometry (same_keyword k w p) ∙ e)
     by_place false p = refl
 
 -- a geometry begins with its word

@@ -7,6 +7,8 @@ use Rattle.std.specs.Prelude.{ℤ, IsSome}
 use Rattle.std.specs.List.{list_all, prefix_len}
 use Rattle.std.specs.Char.{is_ascii_digit}
 use Rattle.std.proofs.lemmas.Bool.Decides.{nat_tests}
+use Rattle.gm_base.proofs.Lists.{take_front, drop_front}
+use Rattle.gm_base.proofs.Booleans.{both_of}
 use Rattle.gm_geom.specs.Number.{number_of}
 use Rattle.gm_calendar.specs.Spelling.{instant_of, has_date_form, is_instant_byte}
 use Rattle.gm_ecql.specs.declared.token.Symbol.{Symbol}
@@ -28,7 +30,7 @@ use Rattle.gm_ecql.specs.Scanner.{if_instant, instant_at, is_e, goes_on, number_
 use Rattle.gm_ecql.specs.Scanner.{number_at, less_at, more_at, as_symbol, symbol_at, numeric_at}
 use Rattle.gm_ecql.specs.Scanner.{token_at}
 use Rattle.gm_ecql.proofs.Dates.{date_shape, date_first, take_more}
-use Rattle.gm_ecql.proofs.Scans.{both, run, take_run, drop_run, take_front, drop_front}
+use Rattle.gm_ecql.proofs.Scans.{run, take_run, drop_run}
 use Rattle.gm_ecql.proofs.Sound.{undoubled_doubled, drop_one}
 use Rattle.gm_ecql.proofs.Numbers.{number_joins, joined_end, joined_ascii}
 
@@ -49,9 +51,9 @@ word_byte_ascii b e = grind (arith, nat_tests)
 pub word_ascii : (bs : List ℕ) → list_all is_word_byte bs ≡ true → (i : ℕ) → slice_index bs i < 128
 word_ascii [] all i = omega arith
 word_ascii (b ∷ bs) all zero =
-    word_byte_ascii b (both (is_word_byte b) (list_all is_word_byte bs) all).0
+    word_byte_ascii b (both_of (is_word_byte b) (list_all is_word_byte bs) all).0
 word_ascii (b ∷ bs) all (suc i) =
-    word_ascii bs (both (is_word_byte b) (list_all is_word_byte bs) all).1 i
+    word_ascii bs (both_of (is_word_byte b) (list_all is_word_byte bs) all).1 i
 
 word_found : (b : ℕ) (bs rest : List ℕ) → is_word_start b ≡ true
     → list_all is_word_byte (b ∷ bs) ≡ true → Stops is_word_byte rest

@@ -1,6 +1,7 @@
 -- The exits of the parser of documents.
 use Rattle.std.proofs.Common.{◌≡◌, ℕ, Bool, true, false, not, ◌==◌, List, [], ◌∷◌, length, Option}
 use Rattle.std.proofs.Common.{Some, None, refl, sym, ◌∙◌, ap, subst, arith, eqb-true}
+use Rattle.gm_base.proofs.Options.{no_some}
 use Rattle.gm_types.specs.Specification.{Specification}
 use Rattle.gm_ecql.specs.declared.halt.Halt.{Halt}
 use Rattle.gm_ecql.specs.declared.halt.Halt.TheVariants as halt
@@ -13,7 +14,6 @@ use Rattle.gm_ecql.specs.Reader.{◌>>=◌}
 use Rattle.gm_ecql.specs.Token.{Seen, seen_all}
 use Rattle.gm_ecql.proofs.GrammarFound.{document_complete}
 use Rattle.gm_ecql.proofs.GrammarSound.{document_sound}
-use Rattle.gm_ecql.proofs.TestFirst.{no_some}
 use Rattle.gm_ecql.proofs.Turns.{halts_then}
 
 module _ (s : Specification) (ts : List Seen) where

@@ -4,9 +4,9 @@ use Rattle.std.proofs.Common.{encode_utf8, encode_utf8_all, IsUtf8, chars, appen
 use Rattle.std.proofs.Common.{ap, ◌∙◌}
 use Rattle.std.specs.Str.{all_scalars}
 use Rattle.std.proofs.lemmas.Str.{encodes-chars}
+use Rattle.gm_base.proofs.Booleans.{both_from, both_of}
 use Rattle.gm_ecql.specs.Token.{doubled}
-use Rattle.gm_ecql.proofs.Scans.{both}
-use Rattle.gm_ecql.proofs.Undoubling.{QuoteFree, free_char, quote_char, quote_first, scalars_first}
+use Rattle.gm_ecql.proofs.Undoubling.{QuoteFree, free_char, quote_char, quote_first}
 
 free_doubled : (bs rest : List ℕ) → QuoteFree bs → doubled (bs ++ rest) ≡ bs ++ doubled rest
 free_doubled [] rest free = refl
@@ -32,9 +32,9 @@ doubled_scalars : (cs : List ℕ) → all_scalars cs ≡ true → all_scalars (d
 doubled_scalars [] s = refl
 doubled_scalars (c ∷ cs) s =
     elim (c == 39) as (λ x. all_scalars (cond x (39 ∷ 39 ∷ doubled cs) (c ∷ doubled cs)) ≡ true) [
-      | true ↦ doubled_scalars cs (both _ (all_scalars cs) s).1
-      | false ↦ scalars_first _ _ (both _ (all_scalars cs) s).0
-          (doubled_scalars cs (both _ (all_scalars cs) s).1)
+      | true ↦ doubled_scalars cs (both_of _ (all_scalars cs) s).1
+      | false ↦ both_from _ _ (both_of _ (all_scalars cs) s).0
+          (doubled_scalars cs (both_of _ (all_scalars cs) s).1)
     ]
 
 pub doubled_utf8 : (bytes : List ℕ) → IsUtf8 bytes → IsUtf8 (doubled bytes)

@@ -17,13 +17,15 @@ use Rattle.std.proofs.lemmas.List.Folds.{list_all-append}
 use Rattle.std.proofs.lemmas.Str.Parse.{IsNumeralModel, numerals_by_value, tells_all_ascii_digits}
 use mir.Syntax.{w32}
 use mir.Val.{SFits}
+use Rattle.gm_base.proofs.Booleans.{both_of}
+use Rattle.gm_base.proofs.Numbers.{no_plus}
 use Rattle.gm_feature.specs.Value.{is_below}
 use Rattle.gm_geom.specs.Number.{number_of, if_number, fixed_of, fixed_text, fraction_text}
 use Rattle.gm_geom.specs.Number.{places_of, degree, digits_at, behind_digits, fraction_at}
 use Rattle.gm_geom.specs.Number.{behind_fraction, exponent_of, mantissa_number, unsigned_number}
 use Rattle.gm_ecql.specs.Token.{a_number, is_number_start}
 use Rattle.gm_ecql.proofs.PrintedNumbers.{IsSigned, is_no_dash, number_piece}
-use Rattle.gm_ecql.proofs.Scans.{both, take_run, drop_run}
+use Rattle.gm_ecql.proofs.Scans.{take_run, drop_run}
 use Rattle.gm_ecql.proofs.Sequences.{Printed}
 use Rattle.gm_ecql.proofs.Wholes.{own, same_digits}
 
@@ -39,7 +41,7 @@ digit_no_dash b e = grind (arith, nat_tests)
 no_dashes : (ds : List ℕ) → list_all is_ascii_digit ds ≡ true → list_all is_no_dash ds ≡ true
 no_dashes [] e = refl
 no_dashes (d ∷ ds) e =
-    let p = both (is_ascii_digit d) (list_all is_ascii_digit ds) e in
+    let p = both_of (is_ascii_digit d) (list_all is_ascii_digit ds) e in
     ap (λ x. x && list_all is_no_dash ds) (digit_no_dash d p.0) ∙ no_dashes ds p.1
 
 no_dashes_more : (ds rest : List ℕ) → list_all is_ascii_digit ds ≡ true
@@ -52,7 +54,7 @@ digits_signed : (ds rest : List ℕ) → list_all is_ascii_digit ds ≡ true →
     → list_all is_no_dash rest ≡ true → IsSigned (ds ++ rest)
 digits_signed [] rest e some f = absurd (omega (arith, some))
 digits_signed (d ∷ ds) rest e some f =
-    let p = both (is_ascii_digit d) (list_all is_ascii_digit ds) e in
+    let p = both_of (is_ascii_digit d) (list_all is_ascii_digit ds) e in
     (digit_starts d p.0, no_dashes_more ds rest p.1 f)
 
 place_no_dash : (m : ℕ) → is_no_dash (48 + m) ≡ true
@@ -150,13 +152,10 @@ digits_number negative ds e h =
 no_minus : (d : ℕ) → is_ascii_digit d ≡ true → (d == 45) ≡ false
 no_minus d e = grind (arith, nat_tests)
 
-no_plus : (d : ℕ) → is_ascii_digit d ≡ true → (d == 43) ≡ false
-no_plus d e = grind (arith, nat_tests)
-
 unsigned : (ds : List ℕ) → list_all is_ascii_digit ds ≡ true → without_leading_sign ds ≡ ds
 unsigned [] e = refl
 unsigned (d ∷ ds) e =
-    let p = both (is_ascii_digit d) (list_all is_ascii_digit ds) e in
+    let p = both_of (is_ascii_digit d) (list_all is_ascii_digit ds) e in
     ap (λ x. cond x ds (without_leading_plus (d ∷ ds))) (no_minus d p.0)
     ∙ ap (λ x. drop (cond x 1 0) (d ∷ ds)) (no_plus d p.0)
 

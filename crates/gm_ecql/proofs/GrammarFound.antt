@@ -2,6 +2,7 @@
 use Rattle.std.proofs.Common.{◌≡◌, ℕ, zero, suc, ◌+◌, ◌≤◌, List, [], ◌∷◌, ◌++◌, length, Option}
 use Rattle.std.proofs.Common.{Some, None, option_map, subst, refl, sym, ◌∙◌, ap, arith}
 use Rattle.std.proofs.Common.{append_assoc, length-append, append-nil}
+use Rattle.gm_base.proofs.Options.{no_some}
 use Rattle.gm_types.specs.Specification.{Specification}
 use Rattle.gm_filter.specs.Tree.{Tree, Trees, all, any}
 use Rattle.gm_ecql.specs.declared.keyword.Keyword.{Keyword}
@@ -21,7 +22,7 @@ use Rattle.gm_ecql.specs.Reader.{Reader, ◌>>=◌, or_else, after_keyword, afte
 use Rattle.gm_ecql.specs.Test.{Trial, include, exclude, ids, named, in_box, related, compared}
 use Rattle.gm_ecql.specs.Test.{between, like, one_of, null, during, timed}
 use Rattle.gm_ecql.specs.Token.{Seen, a_keyword, a_symbol}
-use Rattle.gm_ecql.proofs.TestFirst.{some_is, no_some, mapped}
+use Rattle.gm_ecql.proofs.TestFirst.{some_is, mapped}
 use Rattle.gm_ecql.proofs.TestFound.{test_found}
 
 -- both parts of what is joined are there

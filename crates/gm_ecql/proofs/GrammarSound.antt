@@ -2,6 +2,7 @@
 use Rattle.std.proofs.Common.{◌≡◌, ℕ, zero, suc, List, [], ◌∷◌, ◌++◌, length, Option, Some, None}
 use Rattle.std.proofs.Common.{option_map, refl, sym, ◌∙◌, ap, subst, append_assoc, append-nil, ◌⊎◌}
 use Rattle.std.proofs.Common.{inl, inr}
+use Rattle.gm_base.proofs.Options.{no_some}
 use Rattle.gm_types.specs.Specification.{Specification}
 use Rattle.gm_filter.specs.Tree.{Tree, Trees, all, any}
 use Rattle.gm_ecql.specs.declared.keyword.Keyword.{Keyword}
@@ -19,7 +20,7 @@ use Rattle.gm_ecql.specs.Parser.{closed, factor_step, factor_at, if_last, docume
 use Rattle.gm_ecql.specs.Reader.{Reader, ◌>>=◌, or_else, after_keyword, after_symbol, test_at}
 use Rattle.gm_ecql.specs.Token.{Seen, a_keyword, a_symbol}
 use Rattle.gm_ecql.proofs.Readers.{keyword_first, symbol_first}
-use Rattle.gm_ecql.proofs.TestFirst.{some_is, no_some, bound, mapped, chose}
+use Rattle.gm_ecql.proofs.TestFirst.{some_is, bound, mapped, chose}
 use Rattle.gm_ecql.proofs.TestSound.{TestThere, test_there}
 
 module _ (s : Specification) where

@@ -3,6 +3,7 @@ use Rattle.std.proofs.Common.{◌≡◌, ℕ, zero, suc, ◌<◌, ◌≤◌, Boo
 use Rattle.std.proofs.Common.{map, length, take, drop, Option, Some, None, option_map, refl, sym}
 use Rattle.std.proofs.Common.{ap, ◌∙◌, subst, arith, ◌⊎◌, inl, inr}
 use Rattle.std.specs.Prelude.{Result, Ok, Err, IfOk, IfErr}
+use Rattle.gm_base.proofs.Options.{same_some, no_some}
 use Rattle.gm_ecql.specs.declared.halt.Halt.{Halt}
 use Rattle.gm_ecql.specs.declared.halt.Halt.TheVariants as halt
 use Rattle.gm_ecql.specs.Halt.{Gives}
@@ -15,12 +16,6 @@ use Rattle.gm_ecql.specs.Outcome.{has_blank_first, listed_with, tokens_within, t
 use Rattle.gm_ecql.proofs.Sound.{chosen}
 use Rattle.gm_ecql.proofs.Lists.{first_found, found_first, no_found, token_nil, token_shorter}
 use Rattle.gm_ecql.proofs.Lists.{blank_spells_none, unspaced_without_blank}
-
-same_some : {A : Type 0} (x y : A) → Some x ≡ Some y → x ≡ y
-same_some x y e = cc
-
-no_some : {A P : Type 0} (x : A) → ◌≡◌ {A = Option A} None (Some x) → P
-no_some x e = absurd (cc)
 
 pub within_complete : (n : ℕ) (text : List ℕ) (ts : List (Bool × Seen)) → length text ≤ n
     → Spells text ts → tokens_within n text ≡ Some ts

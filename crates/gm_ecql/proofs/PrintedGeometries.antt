@@ -10,6 +10,7 @@ use Rattle.std.proofs.lemmas.List.Folds.{list_all-append}
 use Rattle.std.proofs.lemmas.Bool.Decides.{nat_tests}
 use mir.Syntax.{w32}
 use mir.Val.{SFits}
+use Rattle.gm_base.proofs.Booleans.{both_of}
 use Rattle.gm_geom.specs.declared.point.Point.{Point}
 use Rattle.gm_geom.specs.declared.geometry.Geometry.{Geometry}
 use Rattle.gm_geom.specs.declared.geometry.Geometry.TheVariants as geo
@@ -30,7 +31,6 @@ use Rattle.gm_ecql.specs.Token.{Seen, a_keyword, a_number}
 use Rattle.gm_ecql.specs.Words.{begins_geometry, keyword_text}
 use Rattle.gm_ecql.proofs.Lexemes.{lead, Lexed}
 use Rattle.gm_ecql.proofs.PrintedWords.{keyword_piece}
-use Rattle.gm_ecql.proofs.Scans.{both}
 use Rattle.gm_ecql.proofs.Sequences.{Begins, Opened, Printed, opened, join, opened_join, blank_one}
 use Rattle.gm_ecql.proofs.Sequences.{blank_then, opened_then, piece_then, comma_then, opening_then}
 use Rattle.gm_ecql.proofs.Sequences.{closing_last}
@@ -376,7 +376,7 @@ module _ (numbers : (z : ℤ) → SFits w32 z → Printed (fixed_text z) (a_numb
 
   pub point_fits : (p : Point) → is_in_world p ≡ true → FitsPoint p
   point_fits p e =
-      let each = both (is_within 1800000000 p.x) (is_within 900000000 p.y) e in
+      let each = both_of (is_within 1800000000 p.x) (is_within 900000000 p.y) e in
       record {
         x = within_fits 1800000000 p.x (lit< tt) each.0;
         y = within_fits 900000000 p.y (lit< tt) each.1;
@@ -385,13 +385,13 @@ module _ (numbers : (z : ℤ) → SFits w32 z → Printed (fixed_text z) (a_numb
   line_fits : (points : List Point) → list_all is_in_world points ≡ true → Line points
   unfolding Line
   line_fits [] e = tt
-  line_fits (p ∷ ps) e = let each = both (is_in_world p) (list_all is_in_world ps) e in
+  line_fits (p ∷ ps) e = let each = both_of (is_in_world p) (list_all is_in_world ps) e in
       (point_fits p each.0, line_fits ps each.1)
 
   split : (xs ys : List Point) → list_all is_in_world (xs ++ ys) ≡ true
       → (list_all is_in_world xs ≡ true) × (list_all is_in_world ys ≡ true)
   split xs ys e =
-      both (list_all is_in_world xs) (list_all is_in_world ys)
+      both_of (list_all is_in_world xs) (list_all is_in_world ys)
       (sym (list_all-append is_in_world xs ys) ∙ e)
 
   lines_fit : (lines : List (List Point)) → list_all is_in_world (joined lines) ≡ true → Lines lines

@@ -10,6 +10,10 @@ use Rattle.std.proofs.lemmas.Bool.{lt-ltb, or_parts}
 use Rattle.std.proofs.lemmas.Bool.Decides.{nat_tests}
 use Rattle.std.proofs.lemmas.Option.{slice_get-map, slice_get_within}
 use Rattle.std.proofs.lemmas.Str.{IsUtf8-from_ascii}
+use Rattle.gm_base.proofs.Booleans.{both_of}
+use Rattle.gm_base.proofs.Options.{no_some}
+use Rattle.gm_base.proofs.Booleans.{false_of_not}
+use Rattle.gm_base.proofs.Numbers.{eq_true}
 use Rattle.gm_types.specs.declared.attribute.Attribute.{Attribute}
 use Rattle.gm_types.specs.declared.kind.Kind.{Kind}
 use Rattle.gm_types.specs.FeatureType.{IsType, is_attribute}
@@ -19,16 +23,12 @@ use Rattle.gm_types.specs.Words.{same_text, are_distinct, is_name}
 use Rattle.gm_ecql.specs.Printer.{name_at, name_if, name_text}
 use Rattle.gm_ecql.specs.Token.{a_name, is_word_byte}
 use Rattle.gm_ecql.proofs.PrintedWords.{name_bytes, name_piece}
-use Rattle.gm_ecql.proofs.Scans.{both}
 use Rattle.gm_ecql.proofs.Sequences.{Printed}
-use Rattle.gm_ecql.proofs.TestFirst.{some_is, no_some, mapped}
-
-same_byte : (b : ℕ) → (b == b) ≡ true
-same_byte b = grind (arith, nat_tests)
+use Rattle.gm_ecql.proofs.TestFirst.{some_is, mapped}
 
 same_self : (x : List ℕ) → same_text x x ≡ true
 same_self [] = refl
-same_self (b ∷ bs) = ap (λ t. t && same_text bs bs) (same_byte b) ∙ same_self bs
+same_self (b ∷ bs) = ap (λ t. t && same_text bs bs) (eq_true b) ∙ same_self bs
 
 -- another attribute has another name
 other_name : (x : List ℕ) (attributes : List Attribute) (place : ℕ) (a : Attribute)
@@ -44,10 +44,6 @@ other_name x (b ∷ bs) (suc place) a none is =
     (or_parts (same_text x b.name)
     (list_any (same_text x) (map (λ attribute. attribute.name) bs)) none).1 is
 
-no_other : (x : Bool) → not x ≡ true → x ≡ false
-no_other true e = absurd (cc)
-no_other false e = refl
-
 -- so the first of its name is the attribute itself
 first_place : (attributes : List Attribute) (place : ℕ) (a : Attribute)
     → are_distinct (map (λ attribute. attribute.name) attributes) ≡ true
@@ -59,10 +55,10 @@ first_place (b ∷ bs) zero a apart is =
     ap (λ x. cond (not x) (1 + prefix_len (λ (c : Attribute). not (same_text c.name a.name)) bs) 0)
     (subst (λ (c : Attribute). same_text b.name c.name ≡ true) (some_is b a is) (same_self b.name))
 first_place (b ∷ bs) (suc place) a apart is =
-    let p = both (not (list_any (same_text b.name) (map (λ attribute. attribute.name) bs)))
+    let p = both_of (not (list_any (same_text b.name) (map (λ attribute. attribute.name) bs)))
     (are_distinct (map (λ attribute. attribute.name) bs)) apart in
     ap (λ x. cond (not x) (1 + prefix_len (λ (c : Attribute). not (same_text c.name a.name)) bs) 0)
-    (other_name b.name bs place a (no_other _ p.0) is)
+    (other_name b.name bs place a (false_of_not _ p.0) is)
     ∙ ap (λ n. 1 + n) (first_place bs place a p.1 is) ∙ one_more place
   where
     one_more : (n : ℕ) → 1 + n ≡ suc n
@@ -83,18 +79,18 @@ attribute_passes : (attributes : List Attribute) (place : ℕ) (a : Attribute)
 attribute_passes [] place a all is = no_some a is
 attribute_passes (b ∷ bs) zero a all is =
     subst (λ (c : Attribute). is_attribute c ≡ true) (some_is b a is)
-    (both (is_attribute b) (list_all is_attribute bs) all).0
+    (both_of (is_attribute b) (list_all is_attribute bs) all).0
 attribute_passes (b ∷ bs) (suc place) a all is =
-    attribute_passes bs place a (both (is_attribute b) (list_all is_attribute bs) all).1 is
+    attribute_passes bs place a (both_of (is_attribute b) (list_all is_attribute bs) all).1 is
 
 word_ascii : (b : ℕ) → is_word_byte b ≡ true → b < 128
 word_ascii b e = grind (arith, nat_tests)
 
 words_ascii : (bs : List ℕ) → list_all is_word_byte bs ≡ true → (i : ℕ) → slice_index bs i < 128
 words_ascii [] e i = omega arith
-words_ascii (b ∷ bs) e zero = word_ascii b (both (is_word_byte b) (list_all is_word_byte bs) e).0
+words_ascii (b ∷ bs) e zero = word_ascii b (both_of (is_word_byte b) (list_all is_word_byte bs) e).0
 words_ascii (b ∷ bs) e (suc i) =
-    words_ascii bs (both (is_word_byte b) (list_all is_word_byte bs) e).1 i
+    words_ascii bs (both_of (is_word_byte b) (list_all is_word_byte bs) e).1 i
 
 -- there is such an attribute
 pub record Named (s : Specification) (place : ℕ) (k : Kind) : Type 0 where
@@ -113,7 +109,7 @@ named s place k t is =
     ∙ ap (option_map (λ (a : Attribute). a.name)) m.1) in
     let passes = attribute_passes s.attributes place a t.valid.attributes m.1 in
     let bytes = name_bytes a.name
-    (both (is_name a.name) _ (both (is_described a.name a.kind a.options) _ passes).0).0 in
+    (both_of (is_name a.name) _ (both_of (is_described a.name a.kind a.options) _ passes).0).0 in
     record {
       kind = is;
       printed = subst (λ n. Printed (name_text n) (a_name n)) (sym name)

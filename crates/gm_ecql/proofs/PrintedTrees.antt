@@ -3,6 +3,7 @@ use Rattle.std.proofs.Common.{◌≡◌, ℕ, ◌<◌, ◌≤◌, Bool, true, fa
 use Rattle.std.proofs.Common.{length, codes, Option, Some, None, option_map, refl, sym, ◌∙◌, ap}
 use Rattle.std.proofs.Common.{subst, arith, append_assoc, append-nil}
 use Rattle.std.specs.Prelude.{nat_le}
+use Rattle.gm_base.proofs.Booleans.{both_of}
 use Rattle.gm_filter.specs.Suitability.{Suits, suits, all_suit}
 use Rattle.gm_filter.specs.Tree.{Tree, Trees, include, exclude, negated, all, any, compare, between}
 use Rattle.gm_filter.specs.Tree.{like, one_of, is_null, ids, bbox, intersects, disjoint, within}
@@ -29,7 +30,6 @@ use Rattle.gm_ecql.proofs.PrintedTests.{null_tested, ids_tested, bbox_tested, in
 use Rattle.gm_ecql.proofs.PrintedTests.{disjoint_tested, within_tested, during_tested}
 use Rattle.gm_ecql.proofs.PrintedTests.{before_tested, after_tested, tequals_tested}
 use Rattle.gm_ecql.proofs.PrintedWords.{keyword_piece}
-use Rattle.gm_ecql.proofs.Scans.{both}
 use Rattle.gm_ecql.proofs.Sequences.{opened, join, piece_then, blank_then, opening_then}
 use Rattle.gm_ecql.proofs.Sequences.{closing_last}
 
@@ -235,14 +235,14 @@ module _ (s : Specification) (below : Below) (typed : IsType s) where
     inside (negated t) h = not_inside s t (inside t h)
     inside (all no_trees) h = absurd (cc)
     inside (all (tree_and t ts)) h =
-        let p = both (nat_le 2 (length (t ∷ members_of ts))) (suits s t && all_suit s ts) h in
-        let q = both (suits s t) (all_suit s ts) p.1 in
+        let p = both_of (nat_le 2 (length (t ∷ members_of ts))) (suits s t && all_suit s ts) h in
+        let q = both_of (suits s t) (all_suit s ts) p.1 in
         bracketed s (all (tree_and t ts)) (listed s true (codes " AND ") (tree_and t ts)) refl
         (whole_and s t ts p.0 (inside t q.0) (ands ts q.1))
     inside (any no_trees) h = absurd (cc)
     inside (any (tree_and t ts)) h =
-        let p = both (nat_le 2 (length (t ∷ members_of ts))) (suits s t && all_suit s ts) h in
-        let q = both (suits s t) (all_suit s ts) p.1 in
+        let p = both_of (nat_le 2 (length (t ∷ members_of ts))) (suits s t && all_suit s ts) h in
+        let q = both_of (suits s t) (all_suit s ts) p.1 in
         bracketed s (any (tree_and t ts)) (listed s true (codes " OR ") (tree_and t ts)) refl
         (whole_or s t ts p.0 (inside t q.0) (ors ts q.1))
     inside (compare a op l) h =
@@ -267,24 +267,24 @@ module _ (s : Specification) (below : Below) (typed : IsType s) where
 
     ands : (ts : Trees) → all_suit s ts ≡ true → Ands s ts
     ands no_trees h = no_ands s
-    ands (tree_and t ts) h = let q = both (suits s t) (all_suit s ts) h in
+    ands (tree_and t ts) h = let q = both_of (suits s t) (all_suit s ts) h in
         more_ands s t ts (inside t q.0) (ands ts q.1)
 
     ors : (ts : Trees) → all_suit s ts ≡ true → Ors s ts
     ors no_trees h = no_ors s
-    ors (tree_and t ts) h = let q = both (suits s t) (all_suit s ts) h in
+    ors (tree_and t ts) h = let q = both_of (suits s t) (all_suit s ts) h in
         more_ors s t ts (inside t q.0) (ors ts q.1)
 
   whole : (t : Tree) → Suits s t → Whole s t (printed s t)
   whole (all no_trees) h = absurd (cc)
   whole (all (tree_and t ts)) h =
-      let p = both (nat_le 2 (length (t ∷ members_of ts))) (suits s t && all_suit s ts) h in
-      let q = both (suits s t) (all_suit s ts) p.1 in
+      let p = both_of (nat_le 2 (length (t ∷ members_of ts))) (suits s t && all_suit s ts) h in
+      let q = both_of (suits s t) (all_suit s ts) p.1 in
       whole_and s t ts p.0 (inside t q.0) (ands ts q.1)
   whole (any no_trees) h = absurd (cc)
   whole (any (tree_and t ts)) h =
-      let p = both (nat_le 2 (length (t ∷ members_of ts))) (suits s t && all_suit s ts) h in
-      let q = both (suits s t) (all_suit s ts) p.1 in
+      let p = both_of (nat_le 2 (length (t ∷ members_of ts))) (suits s t && all_suit s ts) h in
+      let q = both_of (suits s t) (all_suit s ts) p.1 in
       whole_or s t ts p.0 (inside t q.0) (ors ts q.1)
   whole include h = whole_one s include (inside include h)
   whole exclude h = whole_one s exclude (inside exclude h)

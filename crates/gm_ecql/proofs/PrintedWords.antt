@@ -8,6 +8,7 @@ use Rattle.std.specs.List.{list_all}
 use Rattle.std.specs.Str.{is_utf8, IsAscii}
 use Rattle.std.proofs.lemmas.Bool.Decides.{nat_tests}
 use Rattle.std.proofs.lemmas.Str.{IsUtf8-from_ascii}
+use Rattle.gm_base.proofs.Booleans.{both_of}
 use Rattle.gm_calendar.specs.Instant.{IsInstant}
 use Rattle.gm_calendar.specs.Spelling.{instant_text}
 use Rattle.gm_types.specs.Words.{is_name, begins_name, continues_name}
@@ -19,7 +20,6 @@ use Rattle.gm_ecql.specs.Token.{is_word_byte, is_no_double, Stops, Starts, IsPie
 use Rattle.gm_ecql.specs.Token.{doubled}
 use Rattle.gm_ecql.specs.Words.{keyword_text, keyword_of}
 use Rattle.gm_ecql.proofs.Lexemes.{Ends, ends_word, ends_single, ends_instant}
-use Rattle.gm_ecql.proofs.Scans.{both}
 
 keyword_named : (x : Keyword) → keyword_of (keyword_text x) ≡ Some x
 unfolding keyword_of
@@ -97,7 +97,7 @@ more_byte b e = grind (arith, nat_tests)
 more_bytes : (bs : List ℕ) → list_all continues_name bs ≡ true → list_all is_word_byte bs ≡ true
 more_bytes [] h = refl
 more_bytes (b ∷ bs) h =
-    let p = both (continues_name b) (list_all continues_name bs) h in
+    let p = both_of (continues_name b) (list_all continues_name bs) h in
     ap (λ x. x && list_all is_word_byte bs) (more_byte b p.0) ∙ more_bytes bs p.1
 
 pub record NameBytes (name : List ℕ) : Type 0 where
@@ -108,8 +108,8 @@ pub name_bytes : (name : List ℕ) → is_name name ≡ true → NameBytes name
 unfolding is_name
 name_bytes [] h = absurd (cc)
 name_bytes (b ∷ bs) h =
-    let p = both (begins_name b) _ h in
-    let q = both _ (list_all continues_name bs) p.1 in
+    let p = both_of (begins_name b) _ h in
+    let q = both_of _ (list_all continues_name bs) p.1 in
     record {
       starts = p.0;
       all = ap (λ x. x && list_all is_word_byte bs) (start_byte b p.0) ∙ more_bytes bs q.1;
@@ -121,7 +121,7 @@ word_no_double b e = grind (arith, nat_tests)
 no_doubles : (bs : List ℕ) → list_all is_word_byte bs ≡ true → list_all is_no_double bs ≡ true
 no_doubles [] h = refl
 no_doubles (b ∷ bs) h =
-    let p = both (is_word_byte b) (list_all is_word_byte bs) h in
+    let p = both_of (is_word_byte b) (list_all is_word_byte bs) h in
     ap (λ x. x && list_all is_no_double bs) (word_no_double b p.0) ∙ no_doubles bs p.1
 
 some_bytes : (name : List ℕ) → Starts is_word_start name → 0 < length name

@@ -2,6 +2,7 @@
 use Rattle.std.proofs.Common.{◌≡◌, ℕ, Bool, true, false, ◌==◌, cond, eqb, eq-eqb, List, [], ◌∷◌}
 use Rattle.std.proofs.Common.{Option, Some, None, refl, sym, ◌∙◌, ap, subst, inl, inr}
 use Rattle.std.specs.Prelude.{ℤ}
+use Rattle.gm_base.proofs.Options.{same_some, no_some, same_pair}
 use Rattle.gm_ecql.specs.declared.keyword.Keyword.{Keyword}
 use Rattle.gm_ecql.specs.declared.token.Symbol.{Symbol}
 use Rattle.gm_ecql.specs.Places.{keyword_place, symbol_place}
@@ -11,19 +12,13 @@ use Rattle.gm_ecql.specs.Token.{Seen, a_keyword, a_name, a_text, an_instant, a_n
 use Rattle.gm_ecql.proofs.Places.{same_keyword, same_symbol}
 use Rattle.gm_ecql.proofs.Sound.{chosen}
 
-some_is : {A : Type 0} (x y : A) → Some x ≡ Some y → x ≡ y
-some_is x y e = cc
-
-no_some : {A P : Type 0} (y : A) → ◌≡◌ {A = Option A} None (Some y) → P
-no_some y e = absurd (cc)
-
 pub keyword_first : (k : Keyword) (ts rest : List Seen) → after_keyword k ts ≡ Some rest
     → ts ≡ a_keyword k ∷ rest
 keyword_first k [] rest h = no_some rest h
 keyword_first k (a_keyword j ∷ ts) rest h =
     elim (chosen (keyword_place j == keyword_place k) _ _ _ h) [
       | inl p ↦ ap (λ z. a_keyword z ∷ ts) (same_keyword j k p.0)
-          ∙ ap (λ z. a_keyword k ∷ z) (some_is ts rest p.1)
+          ∙ ap (λ z. a_keyword k ∷ z) (same_some ts rest p.1)
       | inr p ↦ no_some rest p.1
     ]
 keyword_first k (a_name bytes ∷ ts) rest h = no_some rest h
@@ -47,7 +42,7 @@ symbol_first s (an_instant at ∷ ts) rest h = no_some rest h
 symbol_first s (a_number bytes ∷ ts) rest h = no_some rest h
 symbol_first s (a_symbol r ∷ ts) rest h = elim (chosen (symbol_place r == symbol_place s) _ _ _ h) [
   | inl p ↦ ap (λ z. a_symbol z ∷ ts) (same_symbol r s p.0)
-      ∙ ap (λ z. a_symbol s ∷ z) (some_is ts rest p.1)
+      ∙ ap (λ z. a_symbol s ∷ z) (same_some ts rest p.1)
   | inr p ↦ no_some rest p.1
 ]
 
@@ -55,18 +50,13 @@ pub symbol_found : (s : Symbol) (rest : List Seen) → after_symbol s (a_symbol 
 symbol_found s rest =
     ap (λ t. cond t (Some rest) None) (eq-eqb (symbol_place s) (symbol_place s) refl)
 
-two : {A B : Type 0} (x y : A) (r s : B) → ◌≡◌ {A = Option (A × B)} (Some (x, r)) (Some (y, s))
-    → (x ≡ y) × (r ≡ s)
-two {A} {B} x y r s h =
-    let e : ◌≡◌ {A = A × B} (x, r) (y, s) = some_is (x, r) (y, s) h in
-    (ap (λ p. p.0) e, ap (λ p. p.1) e)
-
 pub name_first : (ts rest : List Seen) (name : List ℕ) → name_at ts ≡ Some (name, rest)
     → ts ≡ a_name name ∷ rest
 name_first [] rest name h = no_some (name, rest) h
 name_first (a_keyword j ∷ ts) rest name h = no_some (name, rest) h
 name_first (a_name bytes ∷ ts) rest name h =
-    let p = two bytes name ts rest h in ap (λ z. a_name z ∷ ts) p.0 ∙ ap (λ z. a_name name ∷ z) p.1
+    let p = same_pair bytes name ts rest h in
+    ap (λ z. a_name z ∷ ts) p.0 ∙ ap (λ z. a_name name ∷ z) p.1
 name_first (a_text bytes ∷ ts) rest name h = no_some (name, rest) h
 name_first (an_instant at ∷ ts) rest name h = no_some (name, rest) h
 name_first (a_number bytes ∷ ts) rest name h = no_some (name, rest) h
@@ -78,7 +68,8 @@ text_first [] rest text h = no_some (text, rest) h
 text_first (a_keyword j ∷ ts) rest text h = no_some (text, rest) h
 text_first (a_name bytes ∷ ts) rest text h = no_some (text, rest) h
 text_first (a_text bytes ∷ ts) rest text h =
-    let p = two bytes text ts rest h in ap (λ z. a_text z ∷ ts) p.0 ∙ ap (λ z. a_text text ∷ z) p.1
+    let p = same_pair bytes text ts rest h in
+    ap (λ z. a_text z ∷ ts) p.0 ∙ ap (λ z. a_text text ∷ z) p.1
 text_first (an_instant at ∷ ts) rest text h = no_some (text, rest) h
 text_first (a_number bytes ∷ ts) rest text h = no_some (text, rest) h
 text_first (a_symbol s ∷ ts) rest text h = no_some (text, rest) h
@@ -91,7 +82,7 @@ number_first (a_name bytes ∷ ts) rest number h = no_some (number, rest) h
 number_first (a_text bytes ∷ ts) rest number h = no_some (number, rest) h
 number_first (an_instant at ∷ ts) rest number h = no_some (number, rest) h
 number_first (a_number bytes ∷ ts) rest number h =
-    let p = two bytes number ts rest h in
+    let p = same_pair bytes number ts rest h in
     ap (λ z. a_number z ∷ ts) p.0 ∙ ap (λ z. a_number number ∷ z) p.1
 number_first (a_symbol s ∷ ts) rest number h = no_some (number, rest) h
 
@@ -102,6 +93,7 @@ instant_first (a_keyword j ∷ ts) rest ms h = no_some (ms, rest) h
 instant_first (a_name bytes ∷ ts) rest ms h = no_some (ms, rest) h
 instant_first (a_text bytes ∷ ts) rest ms h = no_some (ms, rest) h
 instant_first (an_instant at ∷ ts) rest ms h =
-    let p = two at ms ts rest h in ap (λ z. an_instant z ∷ ts) p.0 ∙ ap (λ z. an_instant ms ∷ z) p.1
+    let p = same_pair at ms ts rest h in
+    ap (λ z. an_instant z ∷ ts) p.0 ∙ ap (λ z. an_instant ms ∷ z) p.1
 instant_first (a_number bytes ∷ ts) rest ms h = no_some (ms, rest) h
 instant_first (a_symbol s ∷ ts) rest ms h = no_some (ms, rest) h

@@ -3,6 +3,8 @@ use Rattle.std.proofs.Common.{◌≡◌, ℕ, Bool, true, false, not, ◌&&◌, 
 use Rattle.std.proofs.Common.{refl, sym, ◌∙◌, ap, subst, arith, append_assoc, append-nil, codes}
 use Rattle.std.specs.List.{list_all}
 use Rattle.std.proofs.lemmas.Bool.Decides.{nat_tests}
+use Rattle.gm_base.proofs.Booleans.{both_of}
+use Rattle.gm_base.proofs.Booleans.{and_false}
 use Rattle.gm_ecql.specs.declared.token.Symbol.{Symbol}
 use Rattle.gm_ecql.specs.declared.token.Symbol.TheVariants as symbol
 use Rattle.gm_ecql.specs.Grammar.{by_commas, comma, opening, closing}
@@ -10,7 +12,6 @@ use Rattle.gm_ecql.specs.Limits.{is_number}
 use Rattle.gm_ecql.specs.Printer.{commas}
 use Rattle.gm_ecql.specs.Token.{Seen, a_symbol, IsPiece, SymbolEnds, Stops, is_less_tail}
 use Rattle.gm_ecql.specs.Token.{is_more_tail, symbol_text}
-use Rattle.gm_ecql.proofs.Scans.{both}
 use Rattle.gm_ecql.proofs.Lexemes.{Lexeme, lead, text_of, tokens_of, tight, AreSpelled, is_end}
 use Rattle.gm_ecql.proofs.Lexemes.{Ends, Follows, FirstIs, Lexed, text_joined, tokens_joined, one}
 
@@ -87,10 +88,6 @@ Printed piece t = (rest : List ℕ) → Ends rest → IsPiece piece t rest
 quiet : (x y : Bool) → y ≡ false → (x && y) ≡ false
 quiet true y e = e
 quiet false y e = refl
-
-and_false : (x : Bool) → (x && false) ≡ false
-and_false true = refl
-and_false false = refl
 
 pub blank_one : (piece : List ℕ) (t : Seen) → Printed piece t → Lexed true piece (t ∷ [])
 blank_one piece t p = record {
@@ -230,5 +227,5 @@ module _ {A : Type 0} (item : A → List ℕ) (token : A → Seen) where
       → (xs : List A) → list_all test xs ≡ true → AllPrinted xs
   unfolding AllPrinted
   all_printed test each [] e = tt
-  all_printed test each (x ∷ xs) e = let p = both (test x) (list_all test xs) e in
+  all_printed test each (x ∷ xs) e = let p = both_of (test x) (list_all test xs) e in
       (each x p.0, all_printed test each xs p.1)

@@ -6,6 +6,9 @@ use Rattle.std.proofs.Common.{append_assoc, length-append, ◌⊎◌, inl, inr}
 use Rattle.std.specs.Prelude.{ℤ, IsSome}
 use Rattle.std.specs.List.{list_all, prefix_len}
 use Rattle.std.proofs.lemmas.Bool.Decides.{nat_tests}
+use Rattle.gm_base.proofs.Lists.{run_passes, take_drop, take_front, drop_front}
+use Rattle.gm_base.proofs.Booleans.{both_of}
+use Rattle.gm_base.proofs.Options.{same_pair}
 use Rattle.gm_geom.specs.Number.{number_of}
 use Rattle.gm_calendar.specs.Spelling.{instant_of, has_date_form, is_instant_byte}
 use Rattle.gm_ecql.specs.declared.token.Symbol.{Symbol}
@@ -27,20 +30,12 @@ use Rattle.gm_ecql.specs.Scanner.{if_instant, instant_at, is_e, goes_on, number_
 use Rattle.gm_ecql.specs.Scanner.{number_at, less_at, more_at, as_symbol, symbol_at, numeric_at}
 use Rattle.gm_ecql.specs.Scanner.{token_at}
 use Rattle.gm_ecql.proofs.Dates.{ten_ahead}
-use Rattle.gm_ecql.proofs.Scans.{both, run_passes, run_stops, take_drop, take_front, drop_front}
+use Rattle.gm_ecql.proofs.Scans.{run_stops}
 
 pub chosen : {A : Type 0} (b : Bool) (x y z : A) → cond b x y ≡ z
     → ((b ≡ true) × (x ≡ z)) ⊎ ((b ≡ false) × (y ≡ z))
 chosen true x y z h = inl (refl, h)
 chosen false x y z h = inr (refl, h)
-
-parts : {A B : Type 0} (a b : A) (x y : B) → ◌≡◌ {A = Option (A × B)} (Some (a, x)) (Some (b, y))
-    → (a ≡ b) × (x ≡ y)
-parts {A = A} {B = B} a b x y h = let e : ◌≡◌ {A = A × B} (a, x) (b, y) = same (a, x) (b, y) h in
-    (ap (λ p. p.0) e, ap (λ p. p.1) e)
-  where
-    same : {C : Type 0} (x y : C) → Some x ≡ Some y → x ≡ y
-    same x y h = cc
 
 pub record At (bytes : List ℕ) (t : Seen) (rest : List ℕ) : Type 0 where
   pub piece : List ℕ
@@ -51,7 +46,7 @@ pub record At (bytes : List ℕ) (t : Seen) (rest : List ℕ) : Type 0 where
 given : (bytes piece r rest : List ℕ) (u t : Seen) → ◌≡◌ {A = Found} (Some (u, r)) (Some (t, rest))
     → bytes ≡ piece ++ r → IsPiece piece u r → At bytes t rest
 given bytes piece r rest u t e w s =
-    let p = parts u t r rest e in
+    let p = same_pair u t r rest e in
     subst (λ x. At bytes x rest) p.0
     (subst (λ x. At bytes u x) p.1 (record { piece = piece; written = w; spelled = s }))
 

@@ -4,6 +4,7 @@ use Rattle.std.proofs.Common.{[], ◌∷◌, ◌++◌, length, take, drop, Optio
 use Rattle.std.proofs.Common.{refl, sym, ◌∙◌, ap, subst, arith, append_assoc, length-append, ◌⊎◌}
 use Rattle.std.proofs.Common.{inl, inr}
 use Rattle.std.specs.Prelude.{ℤ}
+use Rattle.gm_base.proofs.Options.{no_some}
 use Rattle.gm_filter.specs.declared.filter.Op.{Op}
 use Rattle.gm_filter.specs.declared.filter.Op.TheVariants as op
 use Rattle.gm_ecql.specs.declared.keyword.Keyword.{Keyword}
@@ -27,9 +28,6 @@ use Rattle.gm_ecql.proofs.Readers.{number_first, instant_first}
 
 pub some_is : {A : Type 0} (x y : A) → ◌≡◌ {A = Option A} (Some x) (Some y) → x ≡ y
 some_is x y e = cc
-
-pub no_some : {A P : Type 0} (y : A) → ◌≡◌ {A = Option A} None (Some y) → P
-no_some y e = absurd (cc)
 
 -- what a step gave, where the steps behind it give something
 pub bound : {A B : Type 0} (o : Option A) (f : A → Option B) (y : B) → o >>= f ≡ Some y

@@ -4,6 +4,7 @@ use Rattle.std.proofs.Common.{[], ◌∷◌, ◌++◌, length, take, drop, Optio
 use Rattle.std.proofs.Common.{refl, sym, ◌∙◌, ap, subst, arith, append_assoc, append-nil}
 use Rattle.std.proofs.Common.{length-append, ◌⊎◌, inl, inr}
 use Rattle.std.specs.Prelude.{ℤ}
+use Rattle.gm_base.proofs.Options.{no_some}
 use Rattle.gm_filter.specs.declared.filter.Op.{Op}
 use Rattle.gm_ecql.specs.declared.keyword.Keyword.TheVariants as keyword
 use Rattle.gm_ecql.specs.declared.token.Symbol.TheVariants as symbol
@@ -27,7 +28,7 @@ use Rattle.gm_ecql.specs.Token.{Seen, a_keyword, a_name, a_text, an_instant, a_n
 use Rattle.gm_ecql.proofs.Readers.{keyword_first, symbol_first, name_first, text_first}
 use Rattle.gm_ecql.proofs.Readers.{number_first, instant_first}
 use Rattle.gm_ecql.proofs.Sound.{chosen}
-use Rattle.gm_ecql.proofs.TestFirst.{some_is, no_some, bound, mapped, chose, constant_first}
+use Rattle.gm_ecql.proofs.TestFirst.{some_is, bound, mapped, chose, constant_first}
 use Rattle.gm_ecql.proofs.TestFirst.{separator_token, separator_first, list_first, op_first}
 use Rattle.gm_ecql.proofs.TestFirst.{relation_first, timing_first, not_first}
 

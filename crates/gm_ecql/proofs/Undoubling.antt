@@ -8,8 +8,9 @@ use Rattle.std.specs.Str.{all_scalars}
 use Rattle.std.specs.Char.{IsScalar, len_utf8}
 use Rattle.std.proofs.lemmas.Str.{inside_one, length-encode, len_utf8_bounds, encodes-chars}
 use Rattle.std.proofs.lemmas.Str.{encode_ascii}
+use Rattle.gm_base.proofs.Booleans.{both_of}
+use Rattle.gm_base.proofs.Booleans.{not_both, both_from}
 use Rattle.gm_ecql.specs.Token.{doubled, undoubled, undoubled_from}
-use Rattle.gm_ecql.proofs.Scans.{both}
 use Rattle.gm_ecql.proofs.Sound.{undoubled_doubled}
 
 -- no byte is a quote
@@ -21,9 +22,6 @@ quote_free : (bs : List ℕ) → ((k : ℕ) → k < length bs → (get_or bs k 0
     → QuoteFree bs
 quote_free [] h = tt
 quote_free (b ∷ bs) h = (h zero (omega arith), quote_free bs (λ k l. h (suc k) (omega (arith, l))))
-
-not_both : {P : Type 0} (b : Bool) → b ≡ true → b ≡ false → P
-not_both b t f = let e : true ≡ false = sym t ∙ f in absurd (cc)
 
 -- a byte of a character is a quote only where the character is
 no_quote_at : (c k : ℕ) → (c == 39) ≡ false → k < length (encode_utf8 c)
@@ -91,9 +89,6 @@ undoubled_encodes (c ∷ cs) behind =
           (free_char c e) ∙ ap (λ z. encode_utf8 c ++ z) (undoubled_encodes cs false)
     ] refl
 
-pub scalars_first : (x y : Bool) → x ≡ true → y ≡ true → (x && y) ≡ true
-scalars_first x y e f = rw (e, f) refl
-
 scalars_at_quote : (cs : List ℕ) (behind : Bool) → all_scalars (undoubled_from false cs) ≡ true
     → all_scalars (undoubled_from true cs) ≡ true
     → all_scalars (cond behind (undoubled_from false cs) (39 ∷ undoubled_from true cs)) ≡ true
@@ -104,14 +99,14 @@ undoubled_scalars : (cs : List ℕ) (behind : Bool) → all_scalars cs ≡ true
     → all_scalars (undoubled_from behind cs) ≡ true
 undoubled_scalars [] behind s = refl
 undoubled_scalars (c ∷ cs) behind s =
-    let later = (both _ (all_scalars cs) s).1 in
+    let later = (both_of _ (all_scalars cs) s).1 in
     elim (c == 39) as
     (λ x. all_scalars
     (cond x (cond behind (undoubled_from false cs) (39 ∷ undoubled_from true cs))
     (c ∷ undoubled_from false cs)) ≡ true) [
       | true ↦ scalars_at_quote cs behind (undoubled_scalars cs false later)
           (undoubled_scalars cs true later)
-      | false ↦ scalars_first _ _ (both _ (all_scalars cs) s).0 (undoubled_scalars cs false later)
+      | false ↦ both_from _ _ (both_of _ (all_scalars cs) s).0 (undoubled_scalars cs false later)
     ]
 
 pub undoubled_utf8 : (bytes : List ℕ) → IsUtf8 bytes → IsUtf8 (undoubled bytes)

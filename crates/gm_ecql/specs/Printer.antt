@@ -3,6 +3,7 @@
 use Rattle.std.specs.Prelude.{ℕ, ◌==◌, Bool, true, false, if◌then◌else◌, List, [], ◌∷◌, ◌++◌, codes}
 use Rattle.std.specs.Prelude.{ℤ, Option, Some, None}
 use Rattle.std.specs.Fmt.{signed_decimal}
+use Rattle.gm_base.specs.Ascii.{double_quote, single_quote}
 use Rattle.gm_geom.specs.declared.geometry.Geometry.{Geometry}
 use Rattle.gm_geom.specs.declared.point.Box2.{Box2}
 use Rattle.gm_geom.specs.declared.point.Point.{Point}
@@ -33,7 +34,7 @@ name_at s a = name_if (slice_get (names_of s) a)
 
 abbrev pub name_unless : List ℕ → Option Keyword → List ℕ
 name_unless name None = name
-name_unless name (Some k) = 34 ∷ (name ++ 34 ∷ [])
+name_unless name (Some k) = double_quote ∷ (name ++ double_quote ∷ [])
 
 -- a name that is a keyword stands in double quotes
 abbrev pub name_text : List ℕ → List ℕ
@@ -48,7 +49,7 @@ op_text op.Gt = codes " > "
 op_text op.Ge = codes " >= "
 
 abbrev pub quoted_text : List ℕ → List ℕ
-quoted_text text = 39 ∷ (doubled text ++ 39 ∷ [])
+quoted_text text = single_quote ∷ (doubled text ++ single_quote ∷ [])
 
 abbrev pub truth_text : Bool → List ℕ
 truth_text true = codes "TRUE"

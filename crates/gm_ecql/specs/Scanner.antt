@@ -4,6 +4,8 @@ use Rattle.std.specs.Prelude.{if◌then◌else◌, List, [], ◌∷◌, ◌++◌
 use Rattle.std.specs.Prelude.{Some, None}
 use Rattle.std.specs.List.{prefix_len}
 use Rattle.std.specs.Str.{is_utf8}
+use Rattle.gm_base.specs.Ascii.{capital_e, closing, comma, double_quote, equals_sign, greater_sign}
+use Rattle.gm_base.specs.Ascii.{less_sign, opening, single_quote, slash, small_e}
 use Rattle.gm_geom.specs.Number.{number_of}
 use Rattle.gm_calendar.specs.Spelling.{instant_of, has_date_form, is_instant_byte}
 use Rattle.gm_ecql.specs.declared.token.Symbol.{Symbol}
@@ -55,7 +57,7 @@ unfoldable pub text_end : ℕ → Bool → List ℕ → Option ℕ
 text_end at false [] = None
 text_end at true [] = Some (at - 1)
 text_end at pending (b ∷ bs) =
-    if b == 39 then text_end (at + 1) (not pending) bs
+    if b == single_quote then text_end (at + 1) (not pending) bs
     else (if pending then Some (at - 1) else text_end (at + 1) false bs)
 
 abbrev pub text_cut : Option ℕ → List ℕ → Found
@@ -76,7 +78,7 @@ instant_at bytes =
     (drop (prefix_len is_instant_byte bytes) bytes)
 
 abbrev pub is_e : ℕ → Bool
-is_e b = b == 101 || b == 69
+is_e b = b == small_e || b == capital_e
 
 -- a sign goes on with a number at its start and behind its e
 abbrev pub goes_on : Bool → ℕ → Bool
@@ -98,12 +100,12 @@ number_at bytes =
 abbrev pub less_at : List ℕ → Symbol × List ℕ
 less_at [] = (symbol.Less, [])
 less_at (b ∷ bs) =
-    if b == 62 then (symbol.NotEqual, bs)
-    else (if b == 61 then (symbol.AtMost, bs) else (symbol.Less, b ∷ bs))
+    if b == greater_sign then (symbol.NotEqual, bs)
+    else (if b == equals_sign then (symbol.AtMost, bs) else (symbol.Less, b ∷ bs))
 
 abbrev pub more_at : List ℕ → Symbol × List ℕ
 more_at [] = (symbol.More, [])
-more_at (b ∷ bs) = if b == 61 then (symbol.AtLeast, bs) else (symbol.More, b ∷ bs)
+more_at (b ∷ bs) = if b == equals_sign then (symbol.AtLeast, bs) else (symbol.More, b ∷ bs)
 
 abbrev pub as_symbol : Symbol × List ℕ → Found
 as_symbol p = Some (a_symbol p.0, p.1)
@@ -111,13 +113,13 @@ as_symbol p = Some (a_symbol p.0, p.1)
 -- by the first byte and what follows it
 abbrev pub symbol_at : ℕ → List ℕ → Found
 symbol_at b bs =
-    if b == 40 then as_symbol (symbol.Opening, bs)
-    else (if b == 41 then as_symbol (symbol.Closing, bs)
-    else (if b == 44 then as_symbol (symbol.Comma, bs)
-    else (if b == 61 then as_symbol (symbol.Equal, bs)
-    else (if b == 47 then as_symbol (symbol.Slash, bs)
-    else (if b == 60 then as_symbol (less_at bs)
-    else (if b == 62 then as_symbol (more_at bs)
+    if b == opening then as_symbol (symbol.Opening, bs)
+    else (if b == closing then as_symbol (symbol.Closing, bs)
+    else (if b == comma then as_symbol (symbol.Comma, bs)
+    else (if b == equals_sign then as_symbol (symbol.Equal, bs)
+    else (if b == slash then as_symbol (symbol.Slash, bs)
+    else (if b == less_sign then as_symbol (less_at bs)
+    else (if b == greater_sign then as_symbol (more_at bs)
     else None))))))
 
 abbrev pub numeric_at : List ℕ → Found
@@ -127,8 +129,8 @@ unfoldable pub token_at : List ℕ → Found
 token_at [] = None
 token_at (b ∷ bs) =
     if is_word_start b then word_at (b ∷ bs)
-    else (if b == 34 then name_at bs
-    else (if b == 39 then text_at bs
+    else (if b == double_quote then name_at bs
+    else (if b == single_quote then text_at bs
     else (if is_number_start b then numeric_at (b ∷ bs)
     else symbol_at b bs)))
 

@@ -5,6 +5,9 @@ use Rattle.std.specs.Prelude.{List, [], ◌∷◌, ◌++◌, ◌⊎◌, length, 
 use Rattle.std.specs.Prelude.{IsSome, IsUtf8}
 use Rattle.std.specs.List.{list_all}
 use Rattle.std.specs.Char.{is_ascii_digit, is_ascii_alphabetic, is_ascii_alphanumeric}
+use Rattle.gm_base.specs.Ascii.{closing, comma, decimal_point, double_quote, equals_sign}
+use Rattle.gm_base.specs.Ascii.{greater_sign, less_sign, minus_sign, opening, plus_sign}
+use Rattle.gm_base.specs.Ascii.{single_quote, slash, space, tab, underscore}
 use Rattle.gm_geom.specs.Number.{number_of}
 use Rattle.gm_calendar.specs.Spelling.{instant_of, has_date_form, is_instant_byte}
 use Rattle.gm_ecql.specs.declared.keyword.Keyword.{Keyword}
@@ -26,35 +29,35 @@ pub data Seen : Type 0 where
   a_symbol : Symbol → Seen
 
 abbrev pub is_blank : ℕ → Bool
-is_blank b = b == 32 || b == 9
+is_blank b = b == space || b == tab
 
 abbrev pub is_word_start : ℕ → Bool
-is_word_start b = is_ascii_alphabetic b || b == 95
+is_word_start b = is_ascii_alphabetic b || b == underscore
 
 abbrev pub is_word_byte : ℕ → Bool
-is_word_byte b = is_ascii_alphanumeric b || b == 95
+is_word_byte b = is_ascii_alphanumeric b || b == underscore
 
 abbrev pub is_single : ℕ → Bool
-is_single b = b == 39
+is_single b = b == single_quote
 
 abbrev pub is_no_double : ℕ → Bool
-is_no_double b = not (b == 34)
+is_no_double b = not (b == double_quote)
 
 abbrev pub is_sign : ℕ → Bool
-is_sign b = b == 43 || b == 45
+is_sign b = b == plus_sign || b == minus_sign
 
 abbrev pub is_number_start : ℕ → Bool
-is_number_start b = (is_ascii_digit b || b == 46) || is_sign b
+is_number_start b = (is_ascii_digit b || b == decimal_point) || is_sign b
 
 -- what may not follow a number directly
 abbrev pub is_number_tail : ℕ → Bool
-is_number_tail b = is_word_byte b || b == 46
+is_number_tail b = is_word_byte b || b == decimal_point
 
 abbrev pub is_less_tail : ℕ → Bool
-is_less_tail b = b == 62 || b == 61
+is_less_tail b = b == greater_sign || b == equals_sign
 
 abbrev pub is_more_tail : ℕ → Bool
-is_more_tail b = b == 61
+is_more_tail b = b == equals_sign
 
 -- no byte that passes the test stands first
 abbrev pub Stops : (ℕ → Bool) → List ℕ → Type 0
@@ -68,29 +71,31 @@ Starts test (b ∷ bs) = test b ≡ true
 -- each quote written twice
 abbrev pub doubled : List ℕ → List ℕ
 doubled [] = []
-doubled (b ∷ bs) = if b == 39 then 39 ∷ 39 ∷ doubled bs else b ∷ doubled bs
+doubled (b ∷ bs) =
+    if b == single_quote then single_quote ∷ single_quote ∷ doubled bs else b ∷ doubled bs
 
 -- a quote that follows one that counts is dropped; `behind` says that one stands before
 abbrev pub undoubled_from : Bool → List ℕ → List ℕ
 undoubled_from behind [] = []
 undoubled_from behind (b ∷ bs) =
-    if b == 39 then (if behind then undoubled_from false bs else 39 ∷ undoubled_from true bs)
+    if b == single_quote
+    then (if behind then undoubled_from false bs else single_quote ∷ undoubled_from true bs)
     else b ∷ undoubled_from false bs
 
 abbrev pub undoubled : List ℕ → List ℕ
 undoubled raw = undoubled_from false raw
 
 abbrev pub symbol_text : Symbol → List ℕ
-symbol_text symbol.Opening = 40 ∷ []
-symbol_text symbol.Closing = 41 ∷ []
-symbol_text symbol.Comma = 44 ∷ []
-symbol_text symbol.Equal = 61 ∷ []
-symbol_text symbol.NotEqual = 60 ∷ 62 ∷ []
-symbol_text symbol.Less = 60 ∷ []
-symbol_text symbol.AtMost = 60 ∷ 61 ∷ []
-symbol_text symbol.More = 62 ∷ []
-symbol_text symbol.AtLeast = 62 ∷ 61 ∷ []
-symbol_text symbol.Slash = 47 ∷ []
+symbol_text symbol.Opening = opening ∷ []
+symbol_text symbol.Closing = closing ∷ []
+symbol_text symbol.Comma = comma ∷ []
+symbol_text symbol.Equal = equals_sign ∷ []
+symbol_text symbol.NotEqual = less_sign ∷ greater_sign ∷ []
+symbol_text symbol.Less = less_sign ∷ []
+symbol_text symbol.AtMost = less_sign ∷ equals_sign ∷ []
+symbol_text symbol.More = greater_sign ∷ []
+symbol_text symbol.AtLeast = greater_sign ∷ equals_sign ∷ []
+symbol_text symbol.Slash = slash ∷ []
 
 -- the longest symbol is meant
 abbrev pub SymbolEnds : Symbol → List ℕ → Type 0
@@ -124,14 +129,14 @@ pub record IsPlainName (piece bytes rest : List ℕ) : Type 0 where
 
 -- UTF-8 of at least one byte and with no double quote, in double quotes
 pub record IsQuotedName (piece bytes : List ℕ) : Type 0 where
-  pub written : piece ≡ 34 ∷ (bytes ++ 34 ∷ [])
+  pub written : piece ≡ double_quote ∷ (bytes ++ double_quote ∷ [])
   pub some : 0 < length bytes
   pub all : list_all is_no_double bytes ≡ true
   pub utf8 : IsUtf8 bytes
 
 -- UTF-8 in single quotes, each quote inside written twice
 pub record IsText (piece bytes rest : List ℕ) : Type 0 where
-  pub written : piece ≡ 39 ∷ (doubled bytes ++ 39 ∷ [])
+  pub written : piece ≡ single_quote ∷ (doubled bytes ++ single_quote ∷ [])
   pub utf8 : IsUtf8 (doubled bytes)
   pub ends : Stops is_single rest
 

@@ -11,6 +11,8 @@ use Rattle.std.specs.Cmp.Lexicographic.{slice_cmp, nat_list_cmp_total}
 use Rattle.std.proofs.lemmas.Bool.{cases_eq}
 use Rattle.std.specs.FinMap as features
 use Rattle.std.specs.FinMap.{get-insert, get-remove, get-empty, len-empty, len-entries}
+use Rattle.gm_base.proofs.Options.{same_some, none_some}
+use Rattle.gm_base.proofs.Booleans.{true_or_false}
 use Rattle.gm_table.specs.declared.row.Row.{Row}
 use Rattle.gm_table.specs.Batch.{has_key, are_distinct, put_at, applied_at}
 use Rattle.gm_table.specs.Row.{key_of as key_of_row}
@@ -31,8 +33,7 @@ use Rattle.gm_engine_rows.specs.Rows.{IsRow, rows_of_feature, rows_of_type, all_
 use Rattle.gm_engine_rows.specs.Rows.{rows_of}
 use Rattle.gm_engine_rows.specs.Change.{keys_at, rows_with, removes_of, puts_of}
 use Rattle.gm_engine_rows.proofs.Members.{In, is_key, same_key, key_itself, is_same, not_key}
-use Rattle.gm_engine_rows.proofs.Members.{same_or_not, true_or_false, in_keys, has_in, same_some}
-use Rattle.gm_engine_rows.proofs.Members.{none_some}
+use Rattle.gm_engine_rows.proofs.Members.{same_or_not, in_keys, has_in}
 use Rattle.gm_engine_rows.proofs.RowLaws.{Keys, Entries, key_out, key_in, SameOwner, same_owner}
 use Rattle.gm_engine_rows.proofs.RowLaws.{stands_out, stands_in}
 

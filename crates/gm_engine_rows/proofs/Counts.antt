@@ -9,6 +9,7 @@ use Rattle.std.specs.Cmp.Lexicographic.{slice_cmp, nat_list_cmp_total}
 use Rattle.std.specs.FinMap as features
 use Rattle.std.specs.FinMap.{get-insert, get-remove, len-insert, len-entries, same_map}
 use Rattle.std.specs.FinMap.{nat_cmp-IsAntisymmetric, slice_cmp-IsAntisymmetric}
+use Rattle.gm_base.proofs.Booleans.{both_of, false_of_not}
 use Rattle.gm_table.specs.Batch.{has_key, are_distinct}
 use Rattle.gm_table.specs.Sorted.{RowMap, at_key}
 use Rattle.gm_types.specs.FeatureType.{IsType}
@@ -24,7 +25,7 @@ use Rattle.gm_engine_rows.proofs.Members.{In, is_key, same_key, in_keys, has_in,
 use Rattle.gm_engine_rows.proofs.RowLaws.{Keys, Entries, stands_in}
 use Rattle.gm_engine_rows.proofs.Changes.{Step, same_types, here, elsewhere, keeps_state, made_at}
 use Rattle.gm_engine_rows.proofs.Changes.{made_is, its_row, gone, follows}
-use Rattle.gm_engine_rows.proofs.Distinct.{both_so, not_true, some_keys_distinct}
+use Rattle.gm_engine_rows.proofs.Distinct.{some_keys_distinct}
 
 -- ---- maps with and without some keys
 abbrev without_keys : RowMap → List (List ℕ) → RowMap
@@ -63,7 +64,7 @@ len-with : (m : RowMap) (keys : List (List ℕ)) (bytes : List ℕ) → are_dist
     → features.len (with_keys m keys bytes) ≡ features.len m + length keys
 len-with m [] bytes once new = let is : features.len m ≡ features.len m + 0 = omega arith in is
 len-with m (k ∷ keys) bytes once new =
-    let parts = both_so _ _ once in
+    let parts = both_of _ _ once in
     let more : features.len (features.insert m k bytes) ≡ features.len m + 1 =
     len-insert nat_list_cmp_total m k bytes
     ∙ ap (λ (o : Option (List ℕ)). cond (is_some o) (features.len m) (features.len m + 1))
@@ -72,7 +73,7 @@ len-with m (k ∷ keys) bytes once new =
     get-insert nat_list_cmp_total m k bytes q
     ∙ ap (λ t. cond t (Some bytes) (features.get m q))
     (not_key q k (λ same. true≢false
-    (sym (has_in k keys (subst (λ x. In x keys) same member)) ∙ not_true _ parts.0)))
+    (sym (has_in k keys (subst (λ x. In x keys) same member)) ∙ false_of_not _ parts.0)))
     ∙ new q (inr member)) in
     omega (arith, rest, more)
 

@@ -5,6 +5,7 @@ use Rattle.std.proofs.Common.{filter_map, length, Option, Some, None, refl, sym,
 use Rattle.std.proofs.Common.{arith}
 use Rattle.std.specs.Option.{ForSome}
 use Rattle.std.specs.List.{cons_option}
+use Rattle.gm_base.proofs.Booleans.{false_of_never, both_of, both_from, false_of_not}
 use Rattle.gm_table.specs.declared.row.Row.{Row}
 use Rattle.gm_table.specs.Batch.{has_key, are_distinct}
 use Rattle.gm_table.specs.Row.{key_of as key_of_row}
@@ -20,22 +21,6 @@ use Rattle.gm_engine_rows.specs.Change.{keys_at, rows_with, removes_of, puts_of}
 use Rattle.gm_engine_rows.proofs.Members.{In, is_key, in_keys, has_in, kept_out}
 use Rattle.gm_engine_rows.proofs.RowLaws.{Keys}
 
--- ---- lists of keys
-pub false_or : (b : Bool) → (b ≡ true → ⊥) → b ≡ false
-false_or true never = absurd (never refl)
-false_or false never = refl
-
-pub both_so : (a b : Bool) → (a && b) ≡ true → (a ≡ true) × (b ≡ true)
-both_so true b h = (refl, h)
-both_so false b h = cc
-
-both_true : (a b : Bool) → a ≡ true → b ≡ true → (a && b) ≡ true
-both_true a b is is' = ap (λ t. t && b) is ∙ is'
-
-pub not_true : (b : Bool) → not b ≡ true → b ≡ false
-not_true true is = cc
-not_true false is = refl
-
 in_append : {A : Type 0} (x : A) (xs ys : List A) → In x (xs ++ ys) → In x xs ⊎ In x ys
 in_append x [] ys member = inr member
 in_append x (y ∷ xs) ys (inl same) = inl (inl same)
@@ -46,10 +31,10 @@ pub distinct_append : (xs ys : List (List ℕ)) → are_distinct xs ≡ true →
     → ((k : List ℕ) → In k xs → has_key k ys ≡ false) → are_distinct (xs ++ ys) ≡ true
 distinct_append [] ys one other apart = other
 distinct_append (x ∷ xs) ys one other apart =
-    let parts = both_so _ _ one in
-    both_true (not (has_key x (xs ++ ys))) (are_distinct (xs ++ ys))
-    (ap not (false_or (has_key x (xs ++ ys)) (λ has. ⊎_elim
-    (λ here. true≢false (sym (has_in x xs here) ∙ not_true _ parts.0))
+    let parts = both_of _ _ one in
+    both_from (not (has_key x (xs ++ ys))) (are_distinct (xs ++ ys))
+    (ap not (false_of_never (has_key x (xs ++ ys)) (λ has. ⊎_elim
+    (λ here. true≢false (sym (has_in x xs here) ∙ false_of_not _ parts.0))
     (λ there. true≢false (sym (has_in x ys there) ∙ apart x (inl refl)))
     (in_append x xs ys (in_keys x (xs ++ ys) has)))))
     (distinct_append xs ys parts.1 other (λ k member. apart k (inr member)))
@@ -69,14 +54,14 @@ pub distinct_filter : (p : List ℕ → Bool) (xs : List (List ℕ)) → are_dis
     → are_distinct (filter p xs) ≡ true
 distinct_filter p [] one = refl
 distinct_filter p (x ∷ xs) one =
-    let parts = both_so _ _ one in
+    let parts = both_of _ _ one in
     let rest = distinct_filter p xs parts.1 in
     elim (p x) as (λ t. are_distinct (cond t (x ∷ filter p xs) (filter p xs)) ≡ true) [
-      | true ↦ both_true (not (has_key x (filter p xs))) (are_distinct (filter p xs))
-          (ap not (false_or (has_key x (filter p xs))
+      | true ↦ both_from (not (has_key x (filter p xs))) (are_distinct (filter p xs))
+          (ap not (false_of_never (has_key x (filter p xs))
           (λ has. true≢false
           (sym (has_in x xs (in_filter p xs x (in_keys x (filter p xs) has)).1)
-          ∙ not_true _ parts.0)))) rest
+          ∙ false_of_not _ parts.0)))) rest
       | false ↦ rest
     ]
 
@@ -163,8 +148,8 @@ kept_once f test (k ∷ kinds) apart once =
     ≡ true) [
       | true ↦ elim (f k) as (λ o. f k ≡ o → are_distinct (cons_option o others) ≡ true) [
         | None ↦ λ _. rest
-        | Some key ↦ λ is. both_true (not (has_key key others)) (are_distinct others)
-            (ap not (false_or (has_key key others) (λ has.
+        | Some key ↦ λ is. both_from (not (has_key key others)) (are_distinct others)
+            (ap not (false_of_never (has_key key others) (λ has.
             let at = kept_out f test kinds key (in_keys key others has) in
             once.0 (subst (λ j. In j kinds) (apart at.0 k key at.2 is) at.3)))) rest
       ] refl
@@ -202,7 +187,7 @@ batch_distinct keys t old new typed fits fits' =
     ∙ distinct_append (removes_of t old new) (keys_at t new)
     (distinct_filter test (keys_at t old) (some_keys_distinct keys t old typed fits))
     (some_keys_distinct keys t new typed fits')
-    (λ k member. not_true _ (in_filter test (keys_at t old) k member).0)
+    (λ k member. false_of_not _ (in_filter test (keys_at t old) k member).0)
 
 -- ---- the parts of a change
 pub distinct_as : Keys

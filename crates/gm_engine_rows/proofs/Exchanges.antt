@@ -5,6 +5,7 @@ use Rattle.std.proofs.Common.{length, Option, Some, None, refl, sym, ap, subst, 
 use Rattle.std.specs.Prelude.{All, slice_get, if◌then◌else◌}
 use Rattle.std.specs.Option.{ForSome}
 use Rattle.std.specs.List.{flat_map}
+use Rattle.gm_base.proofs.Booleans.{false_of_never, both_of, false_of_not}
 use Rattle.gm_table.specs.declared.row.Row.{Row}
 use Rattle.gm_table.specs.Batch.{has_key, are_distinct, put_at, applied_at}
 use Rattle.gm_table.specs.Row.{key_of as key_of_row}
@@ -26,7 +27,7 @@ use Rattle.gm_engine_rows.proofs.Members.{In, is_key, in_keys, has_in, is_same, 
 use Rattle.gm_engine_rows.proofs.Members.{same_or_not}
 use Rattle.gm_engine_rows.proofs.RowLaws.{Keys, Entries, key_out}
 use Rattle.gm_engine_rows.proofs.Changes.{same_types, here, elsewhere, keeps_state, follows}
-use Rattle.gm_engine_rows.proofs.Distinct.{false_or, both_so, not_true, in_filter, distinct_append}
+use Rattle.gm_engine_rows.proofs.Distinct.{in_filter, distinct_append}
 use Rattle.gm_engine_rows.proofs.Distinct.{distinct_filter, some_keys_distinct, put_keys}
 use Rattle.gm_engine_rows.proofs.Counts.{counted}
 
@@ -136,7 +137,7 @@ apart_later e es d once member same =
     true≢false (sym
     (has_in e.old.id (owners_of es)
     (subst (λ i. In i (owners_of es)) (sym same) (id_in es d member)))
-    ∙ not_true _ (both_so _ _ once).0)
+    ∙ false_of_not _ (both_of _ _ once).0)
 
 same_exchange : (es : List Exchange) (d e : Exchange) → are_distinct (owners_of es) ≡ true → In d es
     → In e es → d.old.id ≡ e.old.id → d ≡ e
@@ -147,7 +148,7 @@ same_exchange (x ∷ es) d e once (inl a) (inr b) same =
 same_exchange (x ∷ es) d e once (inr a) (inl b) same =
     absurd (apart_later x es d once a (ap (λ (y : Exchange). y.old.id) (sym b) ∙ sym same))
 same_exchange (x ∷ es) d e once (inr a) (inr b) same =
-    same_exchange es d e (both_so _ _ once).1 a b same
+    same_exchange es d e (both_of _ _ once).1 a b same
 
 -- a key of the first is none of the later ones
 none_later : Keys
@@ -155,7 +156,8 @@ none_later : Keys
     (k : List ℕ) → IsType t
     → are_distinct (owners_of (e ∷ es)) ≡ true → IsOwned t e k
     → ((d : Exchange) → In d es → In k (g d) → IsOwned t d k) → has_key k (flat_map g es) ≡ false
-none_later keys t e es g k typed once owned owns = false_or (has_key k (flat_map g es)) (λ has.
+none_later keys t e es g k typed once owned owns =
+    false_of_never (has_key k (flat_map g es)) (λ has.
     let at = in_flat g es k (in_keys k (flat_map g es) has) in
     apart_later e es at.0 once at.1 (one_owner keys t e at.0 k typed owned (owns at.0 at.1 at.2)))
 
@@ -171,7 +173,7 @@ removes_distinct keys t (e ∷ es) typed are once =
     (distinct_filter (λ q. not (has_key q (keys_at t e.new))) (keys_of t e.old)
     (some_keys_distinct keys t (Some e.old) typed
     (λ f same. subst (Fits t) (some_is e.old f same) is.old)))
-    (removes_distinct keys t es typed later (both_so _ _ once).1)
+    (removes_distinct keys t es typed later (both_of _ _ once).1)
     (λ k member. none_later keys t e es (λ d. removes_of t (Some d.old) d.new) k typed once
     (owned_removed t e k is member)
     (λ d among. owned_removed t d k (later d among)))
@@ -188,7 +190,7 @@ puts_distinct keys t (e ∷ es) typed are once =
     let later : (d : Exchange) → In d es → IsExchange t d = λ d member. are d (inr member) in
     distinct_append (keys_at t e.new) (new_keys t es)
     (some_keys_distinct keys t e.new typed (λ f same. (is.new f same).fits))
-    (puts_distinct keys t es typed later (both_so _ _ once).1)
+    (puts_distinct keys t es typed later (both_of _ _ once).1)
     (λ k member. none_later keys t e es (λ d. keys_at t d.new) k typed once
     (owned_put t e k is member)
     (λ d among. owned_put t d k (later d among)))
@@ -201,7 +203,7 @@ all_distinct keys t es typed all once =
     ap (λ x. are_distinct (removes_of_all t es ++ x)) (all_put_keys t es)
     ∙ distinct_append (removes_of_all t es) (new_keys t es)
     (removes_distinct keys t es typed are once) (puts_distinct keys t es typed are once)
-    (λ k member. false_or (has_key k (new_keys t es)) (λ has.
+    (λ k member. false_of_never (has_key k (new_keys t es)) (λ has.
     let from = in_flat (λ d. removes_of t (Some d.old) d.new) es k member in
     let to = in_flat (λ d. keys_at t d.new) es k (in_keys k (new_keys t es) has) in
     let same : from.0 ≡ to.0 = same_exchange es from.0 to.0 once from.1 to.1
@@ -212,7 +214,7 @@ all_distinct keys t es typed all once =
     true≢false (sym
     (has_in k (keys_at t from.0.new)
     (subst (λ (d : Exchange). In k (keys_at t d.new)) (sym same) to.2))
-    ∙ not_true _ gone.0)))
+    ∙ false_of_not _ gone.0)))
 
 -- ---- the rows after them
 -- one change, and then the others
@@ -286,7 +288,7 @@ next_of s n t e es state typed are once = record {
   state = keeps_state s n t e.old.id e.new state typed (are e (inl refl)).new;
   typed = ap (λ x. slice_get x n) (same_types n e.old.id e.new s) ∙ typed;
   are = λ d member. exchange_later s n t e d (apart_later e es d once member) (are d (inr member));
-  once = (both_so _ _ once).1;
+  once = (both_of _ _ once).1;
 }
 
 keeps_all : (n : ℕ) (t : Specification) (es : List Exchange) (s : State) → IsState s

@@ -10,6 +10,8 @@ use Rattle.std.specs.declared.cmp.Ordering.{Ordering}
 use Rattle.std.specs.declared.cmp.Ordering.TheVariants.{Less, Equal, Greater}
 use Rattle.std.specs.FinMap.{find, is_sorted, slice_cmp-IsAntisymmetric, nat_cmp-IsAntisymmetric}
 use Rattle.std.specs.FinMap.Entries.{below_all}
+use Rattle.gm_base.proofs.Options.{same_some, none_some}
+use Rattle.gm_base.proofs.Booleans.{true_or_false, both_of-T}
 use Rattle.gm_table.specs.Batch.{has_key}
 
 -- ---- keys that are the same
@@ -30,21 +32,11 @@ not_key a b apart =
     elim (is_key a b) as (λ t. is_key a b ≡ t → t ≡ false)
     [ true ↦ λ is. absurd (apart (same_key a b is)) | false ↦ λ _. refl ] refl
 
-pub true_or_false : (b : Bool) → (b ≡ true) ⊎ (b ≡ false)
-true_or_false true = inl refl
-true_or_false false = inr refl
-
 pub same_or_not : (a b : List ℕ) → (a ≡ b) ⊎ (a ≡ b → ⊥)
 same_or_not a b = ⊎_elim
     (λ is. inl (same_key a b is))
     (λ isnt. inr (λ same. true≢false (sym (is_same a b same) ∙ isnt)))
     (true_or_false (is_key a b))
-
-pub same_some : {A : Type 0} (a b : A) → Some a ≡ Some b → a ≡ b
-same_some a b same = cc
-
-pub none_some : {A : Type 0} (a : A) → None ≡ Some a → ⊥
-none_some a same = cc
 
 -- ---- members
 abbrev pub In : {A : Type 0} → A → List A → Type 0
@@ -191,11 +183,6 @@ kept_in f test (z ∷ xs) x y (inr later) passes is =
       | false ↦ rest
     ]
 
--- ---- entries in order
-pub both_true : (a b : Bool) → T (a && b) → (T a) × (T b)
-both_true true b h = (tt, h)
-both_true false b h = absurd h
-
 less_not_key : (a b : List ℕ) → T (is_lt (slice_cmp nat_cmp a b)) → (b ≡ a → ⊥)
 less_not_key a b less same =
     subst (λ r. T (is_lt r)) (tied_itself nat_list_cmp_total a)
@@ -205,8 +192,8 @@ above : {V : Type 0} (key : List ℕ) (es : List (List ℕ × V)) (e : List ℕ 
     → T (below_all (slice_cmp nat_cmp) key es) → In e es → (e.0 ≡ key → ⊥)
 above key [] e below member = absurd member
 above key (x ∷ es) e below (inl same) =
-    λ at. less_not_key key x.0 (both_true _ _ below).0 (ap (λ p. p.0) (sym same) ∙ at)
-above key (x ∷ es) e below (inr later) = above key es e (both_true _ _ below).1 later
+    λ at. less_not_key key x.0 (both_of-T _ _ below).0 (ap (λ p. p.0) (sym same) ∙ at)
+above key (x ∷ es) e below (inr later) = above key es e (both_of-T _ _ below).1 later
 
 -- each entry of a sorted list is found by its key
 pub found : {V : Type 0} (es : List (List ℕ × V)) (e : List ℕ × V)
@@ -216,7 +203,7 @@ found {V = V} (x ∷ es) e sorted (inl same) =
     ap (λ t. cond t (Some x.1) (find (slice_cmp nat_cmp) e.0 es))
     (is_same e.0 x.0 (ap (λ p. p.0) same)) ∙ ap (λ (p : List ℕ × V). Some p.1) (sym same)
 found (x ∷ es) e sorted (inr later) =
-    let h = both_true _ _ sorted in
+    let h = both_of-T _ _ sorted in
     ap (λ t. cond t (Some x.1) (find (slice_cmp nat_cmp) e.0 es))
     (not_key e.0 x.0 (above x.0 es e h.0 later)) ∙ found es e h.1 later
 

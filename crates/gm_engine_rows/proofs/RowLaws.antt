@@ -8,6 +8,9 @@ use Rattle.std.specs.Ordering.{nat_cmp}
 use Rattle.std.specs.Cmp.Lexicographic.{slice_cmp, nat_list_cmp_total}
 use Rattle.std.specs.FinMap as features
 use Rattle.std.specs.FinMap.{find, get-entries, get-from_entries, entries_sorted}
+use Rattle.gm_base.proofs.Options.{same_some, none_some}
+use Rattle.gm_base.proofs.Lists.{within_list}
+use Rattle.gm_base.proofs.Booleans.{both_of}
 use Rattle.gm_table.specs.Sorted.{Rows, RowMap, at_key}
 use Rattle.gm_types.specs.declared.attribute.Attribute.{Attribute}
 use Rattle.gm_types.specs.declared.index.IndexKind.{IndexKind}
@@ -27,7 +30,6 @@ use Rattle.gm_engine_rows.specs.Rows.{rows_of}
 use Rattle.gm_engine_rows.proofs.Members.{In, Has, find_out, find_in, has_either, has_first}
 use Rattle.gm_engine_rows.proofs.Members.{has_second, has_flat_out, has_flat_in, has_rows_out}
 use Rattle.gm_engine_rows.proofs.Members.{has_rows_in, kept_out, kept_in, found, entry_of}
-use Rattle.gm_engine_rows.proofs.Members.{same_some, none_some}
 
 -- what is known of keys: they tell features apart
 abbrev pub Keys : Type 0
@@ -39,16 +41,6 @@ Keys = (s t : Specification) (one other : IndexKind) (f g : Feature) (key : List
 -- and of the entries of a map
 abbrev pub Entries : Type 0
 Entries = (all : RowMap) (key : List ℕ) → at_key key (features.entries all) ≡ features.get all key
-
--- ---- the keys of a feature
-both_so : (a b : Bool) → (a && b) ≡ true → (a ≡ true) × (b ≡ true)
-both_so true b h = (refl, h)
-both_so false b h = cc
-
-within_list : {A : Type 0} (xs : List A) (n : ℕ) → (slice_get xs n ≡ None → ⊥) → n < length xs
-within_list [] n some = absurd (some refl)
-within_list (x ∷ xs) zero some = omega arith
-within_list (x ∷ xs) (suc n) some = let rest = within_list xs n some in omega arith
 
 among_indexes : (from count n : ℕ) → n < count → In (Attr (from + n)) (attribute_indexes from count)
 among_indexes from zero n within = absurd (omega arith)
@@ -67,7 +59,7 @@ among_all t Xz2 has = inr (inr (inr (inl refl)))
 among_all t Xz3 has = inr (inr (inr (inr (inl refl))))
 among_all t (Attr n) has =
     let within = within_list t.attributes n
-    (λ none. true≢false (sym (both_so _ _ has).0 ∙ ap is_indexed_one none)) in
+    (λ none. true≢false (sym (both_of _ _ has).0 ∙ ap is_indexed_one none)) in
     let same : 0 + n ≡ n = omega arith in
     inr (inr (inr (inr
     (inr (subst (λ (k : ℕ). In (Attr k) (attribute_indexes 0 (length t.attributes))) same

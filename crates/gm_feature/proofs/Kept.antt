@@ -7,6 +7,7 @@ use Rattle.std.specs.List.{list_all, list_any}
 use Rattle.std.proofs.lemmas.Bool.{ltb-false}
 use Rattle.std.proofs.lemmas.List.Concat.{flat_map-append}
 use Rattle.std.proofs.lemmas.List.Elements.{All-nil, All-cons}
+use Rattle.gm_base.proofs.Booleans.{true_of_not, neither_of}
 use Rattle.gm_geom.specs.declared.geometry.Geometry.{Geometry}
 use Rattle.gm_geom.specs.declared.geometry.Geometry.TheVariants as geo
 use Rattle.gm_geom.specs.declared.point.Point.{Point}
@@ -28,14 +29,6 @@ guard : (b : Bool) (fault : GeomFault) (rest : Option GeomFault) → cond b (Som
 guard true fault rest e = absurd cc
 guard false fault rest e = (refl, e)
 
-so : (b : Bool) → not b ≡ false → b ≡ true
-so true e = refl
-so false e = absurd cc
-
-pub neither : (a b : Bool) → (a || b) ≡ false → (a ≡ false) × (b ≡ false)
-neither true b e = absurd cc
-neither false b e = (refl, e)
-
 pub kept : (g : Geometry) → fault_of g ≡ None → IsKept g
 kept g e =
     let many = guard (ltb 10000 (length (points_of g))) Many
@@ -49,8 +42,8 @@ kept g e =
     (cond (not (list_all is_closed (rings_of g))) (Some Ring) None) range.1 in
     record {
       few = ltb-false _ _ many.0;
-      in_world = so (list_all is_in_world (points_of g)) range.0;
-      filled = (neither (has_empty_list g) (list_any has_one_point (lines_of g)) short.0).0;
+      in_world = true_of_not (list_all is_in_world (points_of g)) range.0;
+      filled = (neither_of (has_empty_list g) (list_any has_one_point (lines_of g)) short.0).0;
     }
 
 some_in : {X : Type 0} (xs : List X) → is_empty xs ≡ false → 1 ≤ length xs
@@ -62,7 +55,7 @@ pub no_more_lists : {X : Type 0} (xss : List (List X)) → list_any is_empty xss
     → length xss ≤ length (joined xss)
 no_more_lists [] e = omega arith
 no_more_lists (xs ∷ xss) e =
-    let parts = neither (is_empty xs) (list_any is_empty xss) e in
+    let parts = neither_of (is_empty xs) (list_any is_empty xss) e in
     let here = some_in xs parts.0 in
     let later = no_more_lists xss parts.1 in
     omega (arith, length-append xs (joined xss))
@@ -78,7 +71,7 @@ short_lists n (xs ∷ xss) le lt =
 pub counted_lines : (lines : List (List Point)) → length (joined lines) ≤ 10000
     → is_hollow lines ≡ false → AreCountedLines lines
 counted_lines lines few filled =
-    let parts = neither (is_empty lines) (list_any is_empty lines) filled in
+    let parts = neither_of (is_empty lines) (list_any is_empty lines) filled in
     let no_more = no_more_lists lines parts.1 in
     (omega arith, short_lists 10000 lines few (omega arith))
 
@@ -86,8 +79,8 @@ none_hollow : {X : Type 0} (xsss : List (List (List X))) → list_any is_hollow 
     → (list_any is_empty xsss ≡ false) × (list_any is_empty (joined xsss) ≡ false)
 none_hollow [] e = (refl, refl)
 none_hollow (xss ∷ xsss) e =
-    let parts = neither (is_hollow xss) (list_any is_hollow xsss) e in
-    let here = neither (is_empty xss) (list_any is_empty xss) parts.0 in
+    let parts = neither_of (is_hollow xss) (list_any is_hollow xsss) e in
+    let here = neither_of (is_empty xss) (list_any is_empty xss) parts.0 in
     let later = none_hollow xsss parts.1 in (
       ap (λ b. b || list_any is_empty xsss) here.0
           ∙ later.0,
@@ -98,7 +91,7 @@ none_hollow (xss ∷ xsss) e =
         → list_any is_empty ys ≡ false → list_any is_empty (xs ++ ys) ≡ false
     none_of_two [] ys e f = f
     none_of_two (x ∷ xs) ys e f =
-        let parts = neither (is_empty x) (list_any is_empty xs) e in
+        let parts = neither_of (is_empty x) (list_any is_empty xs) e in
         ap (λ b. b || list_any is_empty (xs ++ ys)) parts.0 ∙ none_of_two xs ys parts.1 f
 
 -- what two lists of lists have together
@@ -112,12 +105,12 @@ each_counted : (areas : List (List (List Point))) → length (joined (joined are
     → list_any is_hollow areas ≡ false → All AreCountedLines areas
 each_counted [] few filled = All-nil AreCountedLines
 each_counted (rings ∷ areas) few filled =
-    let parts = neither (is_hollow rings) (list_any is_hollow areas) filled in
+    let parts = neither_of (is_hollow rings) (list_any is_hollow areas) filled in
     let sum = length-joined rings (joined areas) in
     All-cons AreCountedLines rings areas (counted_lines rings (omega arith) parts.0)
     (each_counted areas (omega arith) parts.1)
 
--- lists of lists that have few members in all are few, and so are the lists in them
+-- lists of lists that have few members in all are few, and true_of_not are the lists in them
 pub few_in_two : (areas : List (List (List Point))) → length (joined (joined areas)) ≤ 10000
     → list_any is_hollow areas ≡ false
     → (length areas ≤ length (joined areas))
@@ -129,7 +122,7 @@ few_in_two areas few filled =
 pub counted_areas : (areas : List (List (List Point))) → length (joined (joined areas)) ≤ 10000
     → (is_empty areas || list_any is_hollow areas) ≡ false → AreCountedAreas areas
 counted_areas areas few filled =
-    let parts = neither (is_empty areas) (list_any is_hollow areas) filled in
+    let parts = neither_of (is_empty areas) (list_any is_hollow areas) filled in
     let no_more = few_in_two areas few parts.1 in
     (omega arith, each_counted areas few parts.1)
 
@@ -137,7 +130,7 @@ counted_areas areas few filled =
 pub few_lines : (areas : List (List (List Point))) → length (joined (joined areas)) ≤ 10000
     → (is_empty areas || list_any is_hollow areas) ≡ false → length (joined areas) ≤ 10000
 few_lines areas few filled =
-    let parts = neither (is_empty areas) (list_any is_hollow areas) filled in
+    let parts = neither_of (is_empty areas) (list_any is_hollow areas) filled in
     let no_more = few_in_two areas few parts.1 in
     omega arith
 

@@ -7,6 +7,8 @@ use Rattle.std.specs.Int.{w32, to_be_bytes}
 use Rattle.std.specs.List.{flat_map, list_all, list_any}
 use Rattle.std.specs.Str.{is_utf8}
 use Rattle.std.proofs.lemmas.Bool.{leb-true}
+use Rattle.gm_base.proofs.Options.{none_is}
+use Rattle.gm_base.proofs.Booleans.{neither_of, both_of}
 use Rattle.gm_geom.specs.declared.geometry.Geometry.{Geometry}
 use Rattle.gm_geom.specs.declared.geometry.Geometry.TheVariants as geo
 use Rattle.gm_geom.specs.declared.point.Point.{Point}
@@ -22,8 +24,7 @@ use Rattle.gm_feature.specs.Feature.{Fits, values_fit}
 use Rattle.gm_feature.specs.Spelling.{point_bytes, points_bytes, lines_bytes, body_bytes}
 use Rattle.gm_feature.specs.Spelling.{value_bytes, values_bytes, feature_bytes}
 use Rattle.gm_feature.specs.Value.{is_no_zero, has_text_form, is_of_kind, is_sound, value_fits}
-use Rattle.gm_feature.proofs.Kept.{kept, neither, no_more_lists, few_in_two, length-joined}
-use Rattle.gm_feature.proofs.Shapes.{both_so, none_is}
+use Rattle.gm_feature.proofs.Kept.{kept, no_more_lists, few_in_two, length-joined}
 use Rattle.gm_feature.proofs.Wholes.{short_identifier}
 
 size_of_points : (points : List Point) → length (flat_map point_bytes points) ≡ 8 * length points
@@ -64,7 +65,7 @@ size_of_areas (rings ∷ areas) =
 few_lines_bytes : (lines : List (List Point)) → length (joined lines) ≤ 10000
     → is_hollow lines ≡ false → length (lines_bytes lines) ≤ 160004
 few_lines_bytes lines few filled =
-    let parts = neither (is_empty lines) (list_any is_empty lines) filled in
+    let parts = neither_of (is_empty lines) (list_any is_empty lines) filled in
     let no_more = no_more_lists lines parts.1 in
     omega (
       arith,
@@ -95,7 +96,7 @@ size_of_body (geo.ManyLines lines) none = let k = kept (geo.ManyLines lines) non
 size_of_body (geo.ManyAreas areas) none =
     let k = kept (geo.ManyAreas areas) none in
     let few : length (joined (joined areas)) ≤ 10000 = k.few in
-    let parts = neither (is_empty areas) (list_any is_hollow areas) k.filled in
+    let parts = neither_of (is_empty areas) (list_any is_hollow areas) k.filled in
     let no_more = few_in_two areas few parts.1 in
     omega (
       arith,
@@ -105,14 +106,14 @@ size_of_body (geo.ManyAreas areas) none =
 
 size_of_text : (text : List ℕ) → has_text_form text ≡ true → length text ≤ 1048576
 size_of_text text form =
-    let parts = both_so (nat_le 1 (length text) && nat_le (length text) 1048576)
+    let parts = both_of (nat_le 1 (length text) && nat_le (length text) 1048576)
     (list_all is_no_zero text) form in
-    leb-true _ _ (both_so (nat_le 1 (length text)) (nat_le (length text) 1048576) parts.0).1
+    leb-true _ _ (both_of (nat_le 1 (length text)) (nat_le (length text) 1048576) parts.0).1
 
 size_of_value : (v : Value) → is_sound v ≡ true → length (value_bytes v) ≤ 1048581
 size_of_value value.Null sound = omega arith
 size_of_value (value.Text text) sound =
-    let few = size_of_text text (both_so (is_utf8 text) (has_text_form text) sound).1 in
+    let few = size_of_text text (both_of (is_utf8 text) (has_text_form text) sound).1 in
     omega (arith, length-append (to_be_bytes w32 (length text)) text)
 size_of_value (value.Integer z) sound = omega arith
 size_of_value (value.Long z) sound = omega arith
@@ -128,8 +129,8 @@ size_of_values [] [] fit = omega arith
 size_of_values [] (v ∷ values) fit = absurd cc
 size_of_values (k ∷ kinds) [] fit = absurd cc
 size_of_values (k ∷ kinds) (v ∷ values) fit =
-    let parts = both_so (value_fits k v) (values_fit kinds values) fit in
-    let here = size_of_value v (both_so (is_of_kind k v) (is_sound v) parts.0).1 in
+    let parts = both_of (value_fits k v) (values_fit kinds values) fit in
+    let here = size_of_value v (both_of (is_of_kind k v) (is_sound v) parts.0).1 in
     let later = size_of_values kinds values parts.1 in
     omega (arith, length-append (value_bytes v) (values_bytes values))
 

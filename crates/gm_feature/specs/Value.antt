@@ -15,10 +15,14 @@ use Rattle.gm_feature.specs.Shape.{has_shape}
 abbrev pub is_no_zero : ℕ → Bool
 is_no_zero byte = not (byte == 0)
 
+-- the most bytes of a text
+abbrev pub text_limit : ℕ
+text_limit = 1048576
+
 -- 1 to 1,048,576 bytes, none of them 0x00
 abbrev pub has_text_form : List ℕ → Bool
 has_text_form bytes =
-    (nat_le 1 (length bytes) && nat_le (length bytes) 1048576) && list_all is_no_zero bytes
+    (nat_le 1 (length bytes) && nat_le (length bytes) text_limit) && list_all is_no_zero bytes
 
 -- from -limit to limit - 1
 abbrev pub is_below : ℕ → ℤ → Bool

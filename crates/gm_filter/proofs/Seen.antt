@@ -6,6 +6,9 @@ use Rattle.std.proofs.lemmas.Int.{ints}
 use Rattle.std.proofs.lemmas.Str.{IsUtf8-from_is_utf8}
 use Rattle.std.specs.Prelude.{int_le, ℤ}
 use Rattle.std.specs.Str.{IsUtf8, is_utf8}
+use Rattle.gm_base.proofs.Numbers.{le_from}
+use Rattle.gm_base.proofs.Numbers.{le_to}
+use Rattle.gm_base.proofs.Booleans.{same_tests}
 use Rattle.gm_geom.specs.declared.point.Point.{Point}
 use Rattle.gm_geom.specs.declared.point.Box2.{Box2}
 use Rattle.gm_geom.specs.declared.geometry.Geometry.{Geometry}
@@ -18,14 +21,8 @@ use Rattle.gm_feature.specs.Stored.{is_point}
 use Rattle.gm_feature.specs.Value.{is_sound, has_text_form}
 use Rattle.gm_filter.specs.declared.filter.Literal.{Literal}
 use Rattle.gm_filter.specs.Truth.{is_one_of, is_within}
-use Rattle.gm_filter.proofs.Trials.{le_from}
 
 -- ---- answers that are one
-
-pub same_answer : (a b : Bool) → (a ≡ true → b ≡ true) → (b ≡ true → a ≡ true) → a ≡ b
-same_answer true b f g = sym (f refl)
-same_answer false true f g = g refl
-same_answer false false f g = refl
 
 -- a test that fails settles one that only it lets pass
 pub fails_with : (t u seen : Bool) → (u ≡ true → t ≡ true) → seen ≡ t → seen ≡ false → false ≡ u
@@ -33,12 +30,6 @@ fails_with t true seen only e f = sym f ∙ e ∙ only refl
 fails_with t false seen only e f = refl
 
 -- ---- a point in a closed box
-
-le_test : (m n : ℤ) → m ≤ℤ n → int_le m n ≡ true
-le_test m n h = elim (cases_Bool (int_le m n)) [
-  | inl passed ↦ passed
-  | inr failed ↦ absurd (omega (arith, ints, h, failed))
-]
 
 in_where_overlapping : (p : Point) (b : Box2) → do_overlap (lone_box p) b ≡ true → IsInBox b p
 in_where_overlapping p b h =
@@ -55,14 +46,14 @@ in_where_overlapping p b h =
 overlapping_where_in : (p : Point) (b : Box2) → IsInBox b p → do_overlap (lone_box p) b ≡ true
 overlapping_where_in p b h =
     and_from (reaches (lone_box p) b) (reaches b (lone_box p))
-    (and_from _ _ (le_test p.x b.high.x h.right) (le_test p.y b.high.y h.above))
-    (and_from _ _ (le_test b.low.x p.x h.left) (le_test b.low.y p.y h.below))
+    (and_from _ _ (le_to p.x b.high.x h.right) (le_to p.y b.high.y h.above))
+    (and_from _ _ (le_to b.low.x p.x h.left) (le_to b.low.y p.y h.below))
 
 pub point_meets : (p : Point) (b : Box2)
     → ((do_intersect (geo.Point p) (box_area b) ≡ true) ↔ IsInBox b p)
     → do_overlap (lone_box p) b ≡ do_intersect (geo.Point p) (box_area b)
 point_meets p b meets =
-    same_answer _ _ (λ over. meets.1 (in_where_overlapping p b over))
+    same_tests _ _ (λ over. meets.1 (in_where_overlapping p b over))
     (λ met. overlapping_where_in p b (meets.0 met))
 
 -- ---- what is no point lies within nothing

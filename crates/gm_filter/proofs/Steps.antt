@@ -7,14 +7,11 @@ use Rattle.std.proofs.lemmas.List.{take_rest, drop-drop}
 use Rattle.std.proofs.lemmas.Bool.{and_parts, or_cases, or_left, or_right, and_from}
 use Rattle.std.proofs.Common.{inl, inr}
 use Rattle.std.specs.List.{AllByRecursion}
+use Rattle.gm_base.proofs.Booleans.{same_tests}
+use Rattle.gm_base.proofs.Lists.{all_append}
 use Rattle.gm_filter.specs.Like.{behind_first}
 use Rattle.gm_filter.specs.Wildcards.{is_continuation, past_continuation, some_suffix_from, matches}
 use Rattle.gm_filter.specs.Run.{advance, ReachesPercent}
-
-all-append : {A : Type 0} (P : A → Type 0) (xs ys : List A) → AllByRecursion P xs
-    → AllByRecursion P ys → AllByRecursion P (xs ++ ys)
-all-append P [] ys h k = k
-all-append P (x ∷ xs) ys h k = (h.0, all-append P xs ys h.1 k)
 
 abbrev pub tail : List ℕ → List ℕ
 tail l = take (length l - 1) (drop 1 l)
@@ -139,15 +136,10 @@ past_part (p ∷ part) later t plain h =
     past_part part later _ plain.1
     (step_matched p (matches (part ++ 37 ∷ later)) t (eqb p 95) (rw (ne_eqb p 37 plain.0) at h))
 
-same_answer : (a b : Bool) → (a ≡ true → b ≡ true) → (b ≡ true → a ≡ true) → a ≡ b
-same_answer true b f g = sym (f refl)
-same_answer false true f g = g refl
-same_answer false false f g = refl
-
 first_match : (pattern : List ℕ) (b : ℕ) (rest later left : List ℕ) → is_continuation b ≡ false
     → ReachesPercent pattern (b ∷ rest) later left
     → some_suffix_from (matches later) left ≡ some_suffix_from (matches pattern) (b ∷ rest)
-first_match pattern b rest later left begins h = same_answer _ _
+first_match pattern b rest later left begins h = same_tests _ _
     (λ found. or_left _ _ (and_from _ _ (ap not begins) (h.same ∙ found)))
     (λ found.
     let at = some_suffix_from_at (matches pattern) (b ∷ rest) found in
@@ -198,7 +190,7 @@ pub passed_more : (pattern text p t next : List ℕ) → HasPassed pattern text 
 passed_more pattern text [] t next h some plain is fewer same = absurd (omega arith)
 passed_more pattern text (x ∷ p) t next h some plain is fewer same = record {
   part = h.part ++ x ∷ [];
-  plain = all-append (λ y. y ≢ 37) h.part (x ∷ []) h.plain (plain, tt);
+  plain = all_append (λ y. y ≢ 37) h.part (x ∷ []) h.plain (plain, tt);
   split = rw (take_rest (x ∷ p) 1, append_assoc) h.split;
   advanced = rw (advance_more, ← h.advanced) (rw (take_rest t 1) at is);
   shorter = omega (arith, h.shorter);

@@ -6,6 +6,8 @@ use Rattle.std.proofs.lemmas.Bool.{and_parts}
 use Rattle.std.proofs.lemmas.Int.{ints}
 use Rattle.std.specs.Prelude.{is_none, int_le, ◌≤ℤ◌, ℤ}
 use Rattle.std.specs.List.{slice_get}
+use Rattle.gm_base.proofs.Numbers.{le_from}
+use Rattle.gm_base.proofs.Options.{none_is}
 use Rattle.gm_geom.specs.declared.point.Box2.{Box2}
 use Rattle.gm_geom.specs.declared.geometry.Geometry.{Geometry}
 use Rattle.gm_geom.specs.Validity.{fault_of, is_in_world}
@@ -17,16 +19,13 @@ use Rattle.gm_feature.specs.declared.value.Value.TheVariants as value
 use Rattle.gm_feature.specs.declared.feature.Feature.{Feature}
 use Rattle.gm_feature.specs.Feature.{Fits, values_fit, value_at}
 use Rattle.gm_feature.specs.Value.{value_fits, is_of_kind, is_sound}
-use Rattle.gm_filter.specs.Suitability.{suits, all_suit, Suits, SuitOneType, passes_kind, is_box, is_kept}
+use Rattle.gm_filter.specs.Suitability.{suits, all_suit, Suits, SuitOneType, passes_kind, is_box}
+use Rattle.gm_filter.specs.Suitability.{is_kept}
 use Rattle.gm_filter.specs.Suitability.{has_area}
 use Rattle.gm_filter.specs.Tree.{Tree, Trees, include, exclude, negated, all, any, compare, between}
 use Rattle.gm_filter.specs.Tree.{like, one_of, is_null, ids, bbox, intersects, disjoint, within}
 use Rattle.gm_filter.specs.Tree.{during, before, after, tequals, no_trees, tree_and, members_of}
 use Rattle.gm_filter.specs.Trial.{MayTry, MayTryAll, IsKeptValue, IsRisingBox, HasPlace}
-
-pub none_is : {A : Type 0} (o : Option A) → is_none o ≡ true → o ≡ None
-none_is None h = refl
-none_is (Some x) h = absurd (true≢false (sym h))
 
 pub kind_there : (test : Kind → Bool) (ks : List Kind) (a : ℕ)
     → passes_kind test (slice_get ks a) ≡ true → a < length ks
@@ -57,9 +56,6 @@ sound_at (k ∷ ks) [] a h = absurd (true≢false (sym h))
 sound_at (k ∷ ks) (v ∷ vs) zero h =
     (and_parts (is_of_kind k v) _ (and_parts (value_fits k v) _ h).0).1
 sound_at (k ∷ ks) (v ∷ vs) (suc a) h = sound_at ks vs a (and_parts (value_fits k v) _ h).1
-
-pub le_from : (m n : ℤ) → int_le m n ≡ true → m ≤ℤ n
-le_from m n h = omega (arith, ints, h)
 
 pub rising : (b : Box2) → is_box b ≡ true → IsRisingBox b
 rising b h = let parts =

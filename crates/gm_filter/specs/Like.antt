@@ -2,6 +2,7 @@
 use Rattle.std.specs.Prelude.{ℕ, ◌==◌, ◌&&◌, ◌||◌, Bool, true, false, if◌then◌else◌, List, [], ◌∷◌}
 use Rattle.std.specs.List.{list_any}
 use Rattle.std.specs.Str.{chars}
+use Rattle.gm_base.specs.Ascii.{percent_sign, underscore}
 
 abbrev pub is_empty : List ℕ → Bool
 is_empty [] = true
@@ -21,8 +22,8 @@ behind_first first test (c ∷ cs) = first c && test cs
 abbrev pub fits : List ℕ → List ℕ → Bool
 fits [] = is_empty
 fits (p ∷ ps) =
-    if p == 37 then some_suffix (fits ps)
-    else (if p == 95 then behind_first (λ _. true) (fits ps)
+    if p == percent_sign then some_suffix (fits ps)
+    else (if p == underscore then behind_first (λ _. true) (fits ps)
     else behind_first (λ c. c == p) (fits ps))
 
 -- the same, of UTF-8
@@ -31,7 +32,7 @@ is_like pattern text = fits (chars pattern) (chars text)
 
 -- `%` or `_`
 abbrev pub is_wildcard : ℕ → Bool
-is_wildcard b = b == 37 || b == 95
+is_wildcard b = b == percent_sign || b == underscore
 
 abbrev pub has_wildcard : List ℕ → Bool
 has_wildcard pattern = list_any is_wildcard pattern

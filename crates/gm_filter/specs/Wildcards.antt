@@ -1,6 +1,7 @@
 -- LIKE over the bytes of UTF-8, where a character is a byte and the continuation bytes behind it.
 use Rattle.std.specs.Prelude.{ℕ, ◌/◌, ◌==◌, ◌&&◌, ◌||◌, Bool, true, not, if◌then◌else◌, List, []}
 use Rattle.std.specs.Prelude.{◌∷◌}
+use Rattle.gm_base.specs.Ascii.{percent_sign, underscore}
 use Rattle.gm_filter.specs.Like.{is_empty, behind_first}
 
 -- a byte inside a character, after its first
@@ -20,6 +21,6 @@ some_suffix_from test (b ∷ bs) =
 abbrev pub matches : List ℕ → List ℕ → Bool
 matches [] = is_empty
 matches (p ∷ ps) =
-    if p == 37 then some_suffix_from (matches ps)
-    else (if p == 95 then behind_first (λ _. true) (λ bs. matches ps (past_continuation bs))
+    if p == percent_sign then some_suffix_from (matches ps)
+    else (if p == underscore then behind_first (λ _. true) (λ bs. matches ps (past_continuation bs))
     else behind_first (λ b. b == p) (matches ps))

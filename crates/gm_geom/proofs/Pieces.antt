@@ -4,6 +4,7 @@ use Rattle.std.proofs.Common.{◌∙◌, append_assoc}
 use Rattle.std.specs.Prelude.{Result, Ok, Err, OnOk}
 use Rattle.std.specs.Fmt.{decimal}
 use Rattle.std.proofs.lemmas.Fmt.{decimal_digit, decimal_step}
+use Rattle.gm_base.proofs.Options.{on_ok}
 use Rattle.gm_geom.specs.Number.{BeginsWith}
 
 -- what begins with a text that begins with a text
@@ -31,7 +32,3 @@ pub three_pieces : (start a b c first second third : List ℕ) → first ≡ sta
 three_pieces start a b c first second third ea eb ec =
     ec ∙ ap (λ t. t ++ c) (eb ∙ ap (λ t. t ++ b) ea) ∙ append_assoc (start ++ a) b c
     ∙ append_assoc start a (b ++ c)
-
-pub on_ok : {T E : Type 0} (r : Result T E) (P Q : Type 0) → (P → Q) → OnOk r P → OnOk r Q
-on_ok (Ok x) P Q f p = f p
-on_ok (Err e) P Q f p = tt

@@ -12,6 +12,8 @@ use Rattle.std.proofs.lemmas.Fmt.{decimal_is_IsNumeral, length-decimal-le}
 use Rattle.std.proofs.lemmas.Nat.{mod_below, div-add-mod'}
 use Rattle.std.proofs.lemmas.Bool.Decides.{nat_tests}
 use Rattle.std.proofs.Math.Nat.{pow-succ'}
+use Rattle.gm_base.proofs.Numbers.{digit_of}
+use Rattle.gm_base.proofs.Lists.{take_front, drop_front}
 use Rattle.gm_geom.specs.declared.number.Number.{Number}
 use Rattle.gm_geom.specs.declared.number.NumberFault.TheVariants.{Big}
 use mir.Syntax.{w32}
@@ -41,14 +43,6 @@ run (d ∷ ds) rest all stops =
     ap (λ t. cond t (1 + prefix_len is_ascii_digit (ds ++ rest)) 0) each.0
     ∙ ap (λ n. 1 + n) (run ds rest each.1 stops) ∙ omega arith
 
-take_front : (ds rest : List ℕ) → take (length ds) (ds ++ rest) ≡ ds
-take_front [] rest = refl
-take_front (d ∷ ds) rest = ap (λ t. d ∷ t) (take_front ds rest)
-
-drop_front : (ds rest : List ℕ) → drop (length ds) (ds ++ rest) ≡ rest
-drop_front [] rest = refl
-drop_front (d ∷ ds) rest = drop_front ds rest
-
 pub digits_front : (ds rest : List ℕ) → AreDigits ds → Stops rest → digits_at (ds ++ rest) ≡ ds
 digits_front ds rest all stops =
     ap (λ n. take n (ds ++ rest)) (run ds rest all stops) ∙ take_front ds rest
@@ -66,11 +60,8 @@ are_digits [] all = refl
 are_digits (d ∷ ds) all =
     ap (λ t. t && list_all is_ascii_digit ds) (digit_from_value d all.0) ∙ are_digits ds all.1
 
-glyph : (d : ℕ) → d < 10 → is_ascii_digit (48 + d) ≡ true
-glyph d small = grind (arith, nat_tests)
-
 glyph_value : (d : ℕ) → d < 10 → digit_value (48 + d) ≡ d
-glyph_value d small = digit_value_is (48 + d) (glyph d small) ∙ omega arith
+glyph_value d small = digit_value_is (48 + d) (digit_of d small) ∙ omega arith
 
 -- a rest below 10^n is what its places say
 abbrev Says : ℕ → ℕ → List ℕ → Type 0
@@ -102,7 +93,7 @@ places_say (suc n) (suc r) small =
     ∙ ap (λ k. (48 + suc r / 10 ^ k) ∷ places_of k (suc r % 10 ^ k)) q in
     subst P (sym e) (
       ap (λ t. t && list_all is_ascii_digit (places_of n (suc r % 10 ^ n)))
-          (glyph (suc r / 10 ^ n) digit) ∙ rest.0,
+          (digit_of (suc r / 10 ^ n) digit) ∙ rest.0,
       omega (arith, rest.1),
       λ w. more w (suc r) n (suc r / 10 ^ n) (places_of n (suc r % 10 ^ n))
           (div-add-mod' (suc r) (10 ^ n)) digit rest.1 (rest.2 (w * 10 + suc r / 10 ^ n)),

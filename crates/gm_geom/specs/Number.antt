@@ -7,6 +7,8 @@ use Rattle.std.specs.List.{list_all, prefix_len}
 use Rattle.std.specs.Char.{is_ascii_digit}
 use Rattle.std.specs.Fmt.{decimal}
 use Rattle.std.specs.Str.Parse.{digits_value, starts_with_minus, without_leading_sign}
+use Rattle.gm_base.specs.Ascii.{plus_sign, minus_sign, decimal_point, capital_e, small_e}
+use Rattle.gm_base.specs.Ascii.{digit_zero}
 use Rattle.gm_geom.specs.declared.number.Exponent.{Exponent}
 use Rattle.gm_geom.specs.declared.number.Number.{Number}
 use Rattle.gm_geom.specs.declared.number.NumberFault.{NumberFault}
@@ -22,25 +24,6 @@ degree = 10000000
 
 abbrev pub unit_places : ℕ
 unit_places = 7
-
--- the bytes `+`, `-`, `.`, `E`, `e` and `0`
-abbrev pub plus_sign : ℕ
-plus_sign = 43
-
-abbrev pub minus_sign : ℕ
-minus_sign = 45
-
-abbrev pub decimal_point : ℕ
-decimal_point = 46
-
-abbrev pub capital_e : ℕ
-capital_e = 69
-
-abbrev pub small_e : ℕ
-small_e = 101
-
-abbrev pub digit_zero : ℕ
-digit_zero = 48
 
 abbrev pub AreDigits : List ℕ → Type 0
 AreDigits bytes = list_all is_ascii_digit bytes ≡ true

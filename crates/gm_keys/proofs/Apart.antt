@@ -13,6 +13,9 @@ use Rattle.std.proofs.lemmas.Str.{IsUtf8-from_is_utf8}
 use Rattle.std.specs.Int.{w32, w64}
 use lib.Signed.{mag}
 use Rattle.byteorder.specs.Endian.{big_bytes}
+use Rattle.gm_base.proofs.Booleans.{both_of}
+use Rattle.gm_base.proofs.Lists.{within_list}
+use Rattle.gm_base.proofs.Options.{then_some}
 use Rattle.gm_calendar.specs.Instant.{IsInstant, is_instant}
 use Rattle.gm_types.specs.declared.index.IndexKind.{IndexKind}
 use Rattle.gm_types.specs.declared.index.IndexKind.TheVariants.{Id, Z2, Z3, Xz2, Xz3, Attr}
@@ -36,7 +39,6 @@ use Rattle.gm_keys.specs.Key.{bin_code_front, form_of, front_of, key_of}
 use Rattle.gm_keys.specs.Cell.{z2_code, z3_code, xz2_code, xz3_code}
 use Rattle.gm_keys.specs.Whereabouts.{point_in, box_in, bin_in}
 use Rattle.gm_keys.specs.Layout.{IsForm, IsMiddle, IsLaidOut}
-use Rattle.gm_keys.proofs.Cells.{both_so}
 
 -- what is known of the forms: none is a front of another of its kind
 pub record Forms : Type 0 where
@@ -137,23 +139,18 @@ map_some : {A B : Type 0} (g : A → B) (o : Option A) (y : B) → option_map g 
 map_some g None y is = cc
 map_some {A = A} {B = B} g (Some x) y is = let same : y ≡ g x = cc in (x, refl, same)
 
-then_some : {A B : Type 0} (g : A → Option B) (o : Option A) (y : B) → option_and_then g o ≡ Some y
-    → (x : A) × (o ≡ Some x) × (g x ≡ Some y)
-then_some g None y is = cc
-then_some g (Some x) y is = (x, refl, is)
-
 some_bytes : (text : List ℕ) → list_all is_no_zero text ≡ true
     → AllByRecursion (λ byte. 0 < byte) text
 some_bytes [] all = tt
 some_bytes (zero ∷ text) all = cc
-some_bytes (suc b ∷ text) all = (omega arith, some_bytes text (both_so _ _ all).1)
+some_bytes (suc b ∷ text) all = (omega arith, some_bytes text (both_of _ _ all).1)
 
 int_fits : (w : ℕ) (z : ℤ) → is_below w z ≡ true → mag z < w
 int_fits w (pos n) is = grind (arith, common_steps)
 int_fits w (negsuc n) is = grind (arith, common_steps)
 
 instant_is : (at : ℤ) → is_instant at ≡ true → IsInstant at
-instant_is at is = let both = both_so _ _ is in
+instant_is at is = let both = both_of _ _ is in
     (record { le = subst T (sym both.0) tt }, record { le = subst T (sym both.1) tt })
 
 same_list : (a b : List ℕ) → ◌≡◌ {A = Option (List ℕ)} (Some a) (Some b) → b ≡ a
@@ -168,12 +165,12 @@ geometry_form shape _ form fit is = cc
 one_form : (k : Kind) (v : Value) (form : List ℕ) → value_fits k v ≡ true → form_of v ≡ Some form
     → IsForm (Some k) form
 one_form kind.Text (value.Text text) form fit is =
-    let sound = both_so _ _ fit in (
+    let sound = both_of _ _ fit in (
       text,
       record {
         utf8 = IsUtf8-from_is_utf8 text sound.0;
         no_zero = All-from_recursion (λ byte. 0 < byte) text
-            (some_bytes text (both_so _ _ sound.1).1);
+            (some_bytes text (both_of _ _ sound.1).1);
       },
       same_list (text_bytes text) form is,
     )
@@ -192,9 +189,9 @@ form_fits : (kinds : List Kind) (values : List Value) (n : ℕ) (form : List ℕ
     → IsForm (slice_get kinds n) form
 form_fits kinds [] n form fit is = cc
 form_fits [] (v ∷ values) n form fit is = cc
-form_fits (k ∷ kinds) (v ∷ values) zero form fit is = one_form k v form (both_so _ _ fit).0 is
+form_fits (k ∷ kinds) (v ∷ values) zero form fit is = one_form k v form (both_of _ _ fit).0 is
 form_fits (k ∷ kinds) (v ∷ values) (suc n) form fit is =
-    form_fits kinds values n form (both_so _ _ fit).1 is
+    form_fits kinds values n form (both_of _ _ fit).1 is
 
 code_parts : (t : Specification) (k : IndexKind) (id front key : List ℕ) (shard code : ℕ)
     → front ≡ code_front (prefix_of t k) shard code → key ≡ front ++ id
@@ -338,17 +335,11 @@ apart forms numbers s t j k f g key typed typed' fits fits' at at' =
           (subst (λ i. IsMiddle s i one.0) parts.1 one.1.middle_is)) other.1.middle_is parts.2,
     )
 
--- ---- prefixes of enabled indexes
-within_list : {A : Type 0} (xs : List A) (n : ℕ) → (slice_get xs n ≡ None → ⊥) → n < length xs
-within_list [] n some = absurd (some refl)
-within_list (x ∷ xs) zero some = omega arith
-within_list (x ∷ xs) (suc n) some = let rest = within_list xs n some in omega arith
-
 pub indexed_within : (t : Specification) (n : ℕ) → has_index t (Attr n) ≡ true
     → n < length t.attributes
 indexed_within t n has =
     within_list t.attributes n
-    (λ none. true≢false (sym (both_so _ _ has).0 ∙ ap is_indexed_one none))
+    (λ none. true≢false (sym (both_of _ _ has).0 ∙ ap is_indexed_one none))
 
 small_index : (t : Specification) (k : IndexKind) → IsType t → has_index t k ≡ true → IsSmall k
 small_index t (Attr n) typed has = let within = indexed_within t n has in

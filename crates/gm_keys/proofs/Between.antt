@@ -18,6 +18,8 @@ use Rattle.std.specs.declared.cmp.Ordering.{Ordering}
 use Rattle.std.specs.declared.cmp.Ordering.TheVariants.{Less, Equal, Greater}
 use Rattle.byteorder.specs.Endian.{big_bytes}
 use Rattle.byteorder.specs.Numbers.{length-bytes_high_first}
+use Rattle.gm_base.proofs.Numbers.{none_is_least, le_true, le_false, eq_false, is_less, is_greater}
+use Rattle.gm_base.proofs.Numbers.{is_equal}
 use Rattle.gm_lexi.specs.Ends.{raised, after_of, is_before, is_from_to}
 use Rattle.gm_types.specs.declared.index.IndexKind.{IndexKind}
 use Rattle.gm_types.specs.declared.index.IndexKind.TheVariants.{Id, Z2, Z3, Xz2, Xz3, Attr}
@@ -73,11 +75,6 @@ prefix_is_bytes t kind =
     (index_number kind ∷ attribute_number kind) (big_is_bytes 2 t.number)
     (attribute_is_bytes kind)
 
--- ---- both sides
-none_is_least : (other : List ℕ) → is_le (slice_cmp nat_cmp [] other) ≡ true
-none_is_least [] = refl
-none_is_least (y ∷ other) = refl
-
 -- of a key that has z behind the prefix, and then a tail
 two_sided : Order → (prefix x y z tail : List ℕ) → AreBytes prefix → AreBytes z
     → length y ≡ length z
@@ -101,33 +98,15 @@ two_sided order prefix x y z tail bytes bytes' long =
     ∙ ap is_le (order.shared prefix z y) in
     (λ i. low i && high i)
 
-le_yes : (a b : ℕ) → a ≤ b → nat_le a b ≡ true
-le_yes a b h = grind (arith, nat_tests)
-
-le_no : (a b : ℕ) → b < a → nat_le a b ≡ false
-le_no a b h = grind (arith, nat_tests)
-
 eq_yes : (a b : ℕ) → a ≡ b → (a == b) ≡ true
 eq_yes a b h = grind (arith, nat_tests)
 
-eq_no : (a b : ℕ) → (a ≡ b → ⊥) → (a == b) ≡ false
-eq_no a b h = grind (arith, nat_tests)
-
-less_is : (x y : ℕ) → x < y → nat_cmp x y ≡ Less
-less_is x y less = sym (nat_cmp_is x y Less less)
-
-more_is : (x y : ℕ) → y < x → nat_cmp x y ≡ Greater
-more_is x y more = sym (nat_cmp_is x y Greater more)
-
-equal_is : (x y : ℕ) → x ≡ y → nat_cmp x y ≡ Equal
-equal_is x y same = sym (nat_cmp_is x y Equal same)
-
 le_is : (a b : ℕ) → is_le (nat_cmp a b) ≡ nat_le a b
 le_is a b = ⊎_elim
-    (λ same. ap is_le (equal_is a b same) ∙ sym (le_yes a b (omega arith)))
+    (λ same. ap is_le (is_equal a b same) ∙ sym (le_true a b (omega arith)))
     (⊎_elim
-    (λ less. ap is_le (less_is a b less) ∙ sym (le_yes a b (omega arith)))
-    (λ more. ap is_le (more_is a b more) ∙ sym (le_no a b more)))
+    (λ less. ap is_le (is_less a b less) ∙ sym (le_true a b (omega arith)))
+    (λ more. ap is_le (is_greater a b more) ∙ sym (le_false a b more)))
     (cases_order a b)
 
 then_le : (r q : Ordering) → is_le q ≡ true → is_le (ordering_then r q) ≡ is_le r
@@ -140,16 +119,16 @@ first_decides : (s o : ℕ) (p q : Ordering)
     → (is_le (ordering_then (nat_cmp s o) p) && is_le (ordering_then (nat_cmp o s) q))
     ≡ ((s == o) && (is_le p && is_le q))
 first_decides s o p q = ⊎_elim
-    (λ same. (λ i. is_le (ordering_then (equal_is s o same i) p)
-    && is_le (ordering_then (equal_is o s (sym same) i) q))
+    (λ same. (λ i. is_le (ordering_then (is_equal s o same i) p)
+    && is_le (ordering_then (is_equal o s (sym same) i) q))
     ∙ ap (λ t. t && (is_le p && is_le q)) (sym (eq_yes s o same)))
     (⊎_elim
-    (λ less. (λ i. is_le (ordering_then (less_is s o less i) p)
-    && is_le (ordering_then (more_is o s less i) q))
-    ∙ ap (λ t. t && (is_le p && is_le q)) (sym (eq_no s o (omega arith))))
-    (λ more. (λ i. is_le (ordering_then (more_is s o more i) p)
-    && is_le (ordering_then (less_is o s more i) q))
-    ∙ ap (λ t. t && (is_le p && is_le q)) (sym (eq_no s o (omega arith)))))
+    (λ less. (λ i. is_le (ordering_then (is_less s o less i) p)
+    && is_le (ordering_then (is_greater o s less i) q))
+    ∙ ap (λ t. t && (is_le p && is_le q)) (sym (eq_false s o (omega arith))))
+    (λ more. (λ i. is_le (ordering_then (is_greater s o more i) p)
+    && is_le (ordering_then (is_less o s more i) q))
+    ∙ ap (λ t. t && (is_le p && is_le q)) (sym (eq_false s o (omega arith)))))
     (cases_order s o)
 
 -- ---- numbers
@@ -268,22 +247,22 @@ one_key [] [] = refl
 one_key [] (y ∷ other) =
     ap (λ t. not t)
     (then_le (nat_cmp 0 y) (slice_cmp nat_cmp [] other) (none_is_least other) ∙ le_is 0 y
-    ∙ le_yes 0 y (omega arith))
+    ∙ le_true 0 y (omega arith))
 one_key (x ∷ key) [] = refl
 one_key (x ∷ key) (y ∷ other) =
     let p = slice_cmp nat_cmp key other in
     let q = slice_cmp nat_cmp (key ++ 0 ∷ []) other in
     ⊎_elim
     (λ same. ap (λ r. is_le (ordering_then r p) && not (is_le (ordering_then r q)))
-    (equal_is x y same) ∙ one_key key other
+    (is_equal x y same) ∙ one_key key other
     ∙ ap (λ t. t && pointwise nat_eq key other) (sym (eq_yes x y same)))
     (⊎_elim
     (λ less. ap (λ r. is_le (ordering_then r p) && not (is_le (ordering_then r q)))
-    (less_is x y less)
-    ∙ ap (λ t. t && pointwise nat_eq key other) (sym (eq_no x y (omega arith))))
+    (is_less x y less)
+    ∙ ap (λ t. t && pointwise nat_eq key other) (sym (eq_false x y (omega arith))))
     (λ more. ap (λ r. is_le (ordering_then r p) && not (is_le (ordering_then r q)))
-    (more_is x y more)
-    ∙ ap (λ t. t && pointwise nat_eq key other) (sym (eq_no x y (omega arith)))))
+    (is_greater x y more)
+    ∙ ap (λ t. t && pointwise nat_eq key other) (sym (eq_false x y (omega arith)))))
     (cases_order x y)
 
 -- ---- what lies within begins alike
@@ -315,7 +294,7 @@ some_after shard rest small =
       | None ↦ (
         (shard + 1) ∷ [],
         ap (λ t. if t then None else Some ((shard + 1) ∷ []))
-            (eq_no shard 255 (λ same. absurd (omega (arith, same)))),
+            (eq_false shard 255 (λ same. absurd (omega (arith, same)))),
       )
       | Some end ↦ (shard ∷ end, refl)
     ]
@@ -341,15 +320,15 @@ last_is last low (y ∷ rest) within = ⊎_elim
     (λ more. absurd
     (true≢false (sym within
     ∙ ap (λ r. is_le (ordering_then r (slice_cmp nat_cmp low rest))
-    && is_before (Some ((last + 1) ∷ [])) (y ∷ rest)) (more_is last y more)))))
+    && is_before (Some ((last + 1) ∷ [])) (y ∷ rest)) (is_greater last y more)))))
     (cases_order last y)
   where
     high_fails : last < y → is_from_to (last ∷ low) (Some ((last + 1) ∷ [])) (y ∷ rest) ≡ false
     high_fails less =
         ap (λ r. is_le (ordering_then r (slice_cmp nat_cmp low rest))
-        && is_before (Some ((last + 1) ∷ [])) (y ∷ rest)) (less_is last y less)
+        && is_before (Some ((last + 1) ∷ [])) (y ∷ rest)) (is_less last y less)
         ∙ ap not (then_le (nat_cmp (last + 1) y) (slice_cmp nat_cmp [] rest) (none_is_least rest)
-        ∙ le_is (last + 1) y ∙ le_yes (last + 1) y (omega arith))
+        ∙ le_is (last + 1) y ∙ le_true (last + 1) y (omega arith))
 
 -- a prefix ends with a byte that can be raised
 pub record Ended (prefix : List ℕ) : Type 0 where
@@ -366,7 +345,7 @@ behind_a_prefix prefix low key ended within =
     let last = ended.last in
     let single : after_of (last ∷ []) ≡ Some ((last + 1) ∷ []) =
     ap (λ t. if t then None else Some ((last + 1) ∷ []))
-    (eq_no last 255 (λ same. absurd (omega (arith, same, ended.small)))) in
+    (eq_false last 255 (λ same. absurd (omega (arith, same, ended.small)))) in
     let end : after_of prefix ≡ Some (front ++ (last + 1) ∷ []) =
     ap after_of ended.parts ∙ after-behind front (last ∷ []) ((last + 1) ∷ []) single in
     let start : prefix ++ low ≡ front ++ (last ∷ low) =

@@ -6,6 +6,7 @@ use Rattle.std.proofs.lemmas.List.{take_at}
 use Rattle.std.proofs.Math.Seq.{drop-append_seam as drop-append}
 use Rattle.std.proofs.lemmas.Str.{is_utf8-from_IsUtf8, IsUtf8-from_is_utf8}
 use Rattle.std.specs.Str.{is_utf8}
+use Rattle.gm_base.proofs.Options.{same_some, none_some}
 use Rattle.gm_base.specs.Identifier.{is_identifier, has_identifier_form}
 use Rattle.gm_types.specs.declared.index.IndexKind.{IndexKind}
 use Rattle.gm_types.specs.Index.{has_index}
@@ -86,9 +87,3 @@ id_found t kind key rest id middle has begins middle_is follows identifier =
         ),
       ),
     )
-
-pub same_some : {A : Type 0} (a b : A) → Some a ≡ Some b → a ≡ b
-same_some a b same = cc
-
-pub none_some : {A : Type 0} (a : A) → None ≡ Some a → ⊥
-none_some a same = cc

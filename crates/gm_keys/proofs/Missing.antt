@@ -4,6 +4,9 @@ use Rattle.std.proofs.Common.{fold, get_or, Option, Some, None, is_some, is_none
 use Rattle.std.proofs.Common.{option_and_then, option_to_list, refl, sym, ap, ◌∙◌}
 use Rattle.std.specs.Prelude.{slice_get, if◌then◌else◌}
 use Rattle.std.specs.List.{list_any}
+use Rattle.gm_base.proofs.Booleans.{both_of}
+use Rattle.gm_base.proofs.Options.{none_is}
+use Rattle.gm_base.proofs.Booleans.{neither_of, or_false}
 use Rattle.gm_calendar.specs.Bin.{bin_at}
 use Rattle.gm_calendar.specs.declared.bin.Bin.{Bin}
 use Rattle.gm_calendar.specs.declared.period.Period.{Period}
@@ -36,8 +39,6 @@ use Rattle.gm_feature.specs.Value.{value_fits}
 use Rattle.gm_keys.specs.Whereabouts.{geometry_of, instant_of, point_of, box_of, point_in, box_in}
 use Rattle.gm_keys.specs.Whereabouts.{bin_in, is_null, lacks_value}
 use Rattle.gm_keys.specs.Key.{form_of, front_of, key_of}
-use Rattle.gm_keys.proofs.Cells.{both_so}
-use Rattle.gm_keys.proofs.Places.{none_is}
 
 -- ---- extents
 short_is : (many all short : Bool) (rest : Option GeomFault)
@@ -49,10 +50,6 @@ short_is false false short rest none = cc
 short_is false true true rest none = cc
 short_is false true false rest none = refl
 
-neither : (a b : Bool) → (a || b) ≡ false → (a ≡ false) × (b ≡ false)
-neither true b is = cc
-neither false b is = (refl, is)
-
 some_left : {A : Type 0} (xs ys : List A) → is_empty xs ≡ false → is_empty (xs ++ ys) ≡ false
 some_left [] ys some = cc
 some_left (x ∷ xs) ys some = refl
@@ -60,7 +57,7 @@ some_left (x ∷ xs) ys some = refl
 some_joined : {A : Type 0} (lists : List (List A)) → is_hollow lists ≡ false
     → is_empty (joined lists) ≡ false
 some_joined [] some = cc
-some_joined (xs ∷ lists) some = some_left xs (joined lists) (neither _ _ some).0
+some_joined (xs ∷ lists) some = some_left xs (joined lists) (neither_of _ _ some).0
 
 some_joined_twice : {A : Type 0} (lists : List (List (List A)))
     → (is_empty lists || list_any is_hollow lists) ≡ false
@@ -68,8 +65,8 @@ some_joined_twice : {A : Type 0} (lists : List (List (List A)))
 some_joined_twice [] some = cc
 some_joined_twice ([] ∷ lists) some = cc
 some_joined_twice ((xs ∷ inner) ∷ lists) some =
-    let here = (neither _ _ some).0 in
-    let first = (neither _ _ here).0 in
+    let here = (neither_of _ _ some).0 in
+    let first = (neither_of _ _ here).0 in
     some_left xs (joined (inner ++ joined lists)) first
 
 some_points : (g : Geometry) → has_empty_list g ≡ false → is_empty (points_of g) ≡ false
@@ -89,7 +86,8 @@ some_extent [] some = cc
 some_extent (p ∷ points) some = stays_some points _
 
 kept_box : (g : Geometry) → fault_of g ≡ None → is_none (box_of g) ≡ false
-kept_box g kept = some_extent (points_of g) (some_points g (neither _ _ (short_is _ _ _ _ kept)).0)
+kept_box g kept =
+    some_extent (points_of g) (some_points g (neither_of _ _ (short_is _ _ _ _ kept)).0)
 
 -- ---- values
 fits_at : (kinds : List Kind) (values : List Value) (n : ℕ) (k : Kind)
@@ -98,8 +96,8 @@ fits_at : (kinds : List Kind) (values : List Value) (n : ℕ) (k : Kind)
 fits_at [] values n k fit is = cc
 fits_at (x ∷ kinds) [] n k fit is = cc
 fits_at (x ∷ kinds) (v ∷ values) zero k fit is = let same : x ≡ k = cc in
-    ap (λ y. value_fits y v) (sym same) ∙ (both_so _ _ fit).0
-fits_at (x ∷ kinds) (v ∷ values) (suc n) k fit is = fits_at kinds values n k (both_so _ _ fit).1 is
+    ap (λ y. value_fits y v) (sym same) ∙ (both_of _ _ fit).0
+fits_at (x ∷ kinds) (v ∷ values) (suc n) k fit is = fits_at kinds values n k (both_of _ _ fit).1 is
 
 point_value : (v : Value) → value_fits (kind.Geo shape.Point) v ≡ true
     → is_none (option_and_then point_of (geometry_of v)) ≡ is_null v
@@ -115,7 +113,7 @@ point_value _ fit = cc
 box_value : (s : GeoKind) (v : Value) → value_fits (kind.Geo s) v ≡ true
     → is_none (option_and_then box_of (geometry_of v)) ≡ is_null v
 box_value s value.Null fit = refl
-box_value s (value.Geo g) fit = kept_box g (none_is (fault_of g) (both_so _ _ fit).1)
+box_value s (value.Geo g) fit = kept_box g (none_is (fault_of g) (both_of _ _ fit).1)
 box_value s _ fit = cc
 
 some_is : {A : Type 0} (o : Option A) → is_some o ≡ true → is_none o ≡ false
@@ -138,11 +136,6 @@ form_value kind.Boolean (value.Geo g) plain fit = cc
 form_value kind.Date (value.Geo g) plain fit = cc
 form_value _ value.Null plain fit = refl
 form_value _ _ plain fit = refl
-
--- ---- what the indexes need
-or_false : (b : Bool) → b ≡ (b || false)
-or_false true = refl
-or_false false = refl
 
 -- by the places of the default geometry and the default date
 abbrev point_by : Feature → Option ℕ → Option Point
@@ -298,6 +291,6 @@ missing t (Attr n) f holds fits has =
         past kinds [] n fit at = refl
         past [] (v ∷ values) n fit at = cc
         past (k ∷ kinds) (v ∷ values) zero fit at = cc
-        past (k ∷ kinds) (v ∷ values) (suc n) fit at = past kinds values n (both_so _ _ fit).1 at
+        past (k ∷ kinds) (v ∷ values) (suc n) fit at = past kinds values n (both_of _ _ fit).1 at
     value_missing (Some k) at plain =
         form_value k (value_at f n) plain (fits_at (kinds_of t) f.values n k fits.each at)

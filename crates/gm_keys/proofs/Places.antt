@@ -5,6 +5,9 @@ use Rattle.std.proofs.Common.{None, is_none, refl, sym, ap, ◌∙◌, arith}
 use Rattle.std.proofs.lemmas.Int.{ints}
 use Rattle.std.proofs.lemmas.Grind.{common_steps}
 use Rattle.std.specs.List.{list_all}
+use Rattle.gm_base.proofs.Booleans.{both_of}
+use Rattle.gm_base.proofs.Booleans.{both_from}
+use Rattle.gm_base.proofs.Options.{none_is}
 use Rattle.gm_geom.specs.declared.point.Point.{Point}
 use Rattle.gm_geom.specs.declared.point.Box2.{Box2}
 use Rattle.gm_geom.specs.Extent.{IsInBox, IsLeastBox, HoldsAll, extent_of}
@@ -19,19 +22,14 @@ use Rattle.gm_feature.specs.declared.value.Value.TheVariants as value
 use Rattle.gm_feature.specs.Feature.{values_fit}
 use Rattle.gm_feature.specs.Value.{is_sound}
 use Rattle.gm_keys.specs.Cell.{IsBoxInWorld}
-use Rattle.gm_keys.proofs.Cells.{both_so}
 
 -- each value of a feature that fits is sound
 pub sound_at : (kinds : List Kind) (values : List Value) (n : ℕ) → values_fit kinds values ≡ true
     → is_sound (get_or values n value.Null) ≡ true
 sound_at kinds [] n fit = refl
 sound_at [] (v ∷ values) n fit = cc
-sound_at (k ∷ kinds) (v ∷ values) zero fit = (both_so _ _ (both_so _ _ fit).0).1
-sound_at (k ∷ kinds) (v ∷ values) (suc n) fit = sound_at kinds values n (both_so _ _ fit).1
-
-pub none_is : {A : Type 0} (o : Option A) → is_none o ≡ true → o ≡ None
-none_is None is = refl
-none_is (Some x) is = cc
+sound_at (k ∷ kinds) (v ∷ values) zero fit = (both_of _ _ (both_of _ _ fit).0).1
+sound_at (k ∷ kinds) (v ∷ values) (suc n) fit = sound_at kinds values n (both_of _ _ fit).1
 
 -- a geometry among them is kept
 pub kept_at : (kinds : List Kind) (values : List Value) (n : ℕ) (v : Value) (g : Geometry)
@@ -62,22 +60,19 @@ world = record {
 
 in_world_box : (p : Point) → is_in_world p ≡ true → IsInBox world p
 in_world_box p within =
-    let x = from_within 1800000000 p.x (both_so _ _ within).0 in
-    let y = from_within 900000000 p.y (both_so _ _ within).1 in
+    let x = from_within 1800000000 p.x (both_of _ _ within).0 in
+    let y = from_within 900000000 p.y (both_of _ _ within).1 in
     record { left = x.0; right = x.1; below = y.0; above = y.1 }
 
 all_in_world : (points : List Point) → list_all is_in_world points ≡ true → HoldsAll world points
 all_in_world [] all = tt
 all_in_world (p ∷ points) all =
-    (in_world_box p (both_so _ _ all).0, all_in_world points (both_so _ _ all).1)
-
-both_true : (a b : Bool) → a ≡ true → b ≡ true → (a && b) ≡ true
-both_true a b is is' = ap (λ t. t && b) is ∙ is'
+    (in_world_box p (both_of _ _ all).0, all_in_world points (both_of _ _ all).1)
 
 corner : (p : Point) → neg_ℤ (pos 1800000000) ≤ℤ p.x → p.x ≤ℤ pos 1800000000
     → neg_ℤ (pos 900000000) ≤ℤ p.y → p.y ≤ℤ pos 900000000 → is_in_world p ≡ true
 corner p left right below above =
-    both_true _ _ (to_within 1800000000 p.x left right) (to_within 900000000 p.y below above)
+    both_from _ _ (to_within 1800000000 p.x left right) (to_within 900000000 p.y below above)
 
 pub extent_in_world : (points : List Point) (box : Box2) → list_all is_in_world points ≡ true
     → extent_of points ≡ Some box → IsLeastBox box points → IsBoxInWorld box

@@ -7,7 +7,7 @@ use Rattle.gm_curve.specs.Scale.{normal_of}
 use Rattle.gm_curve.specs.Xz.{xz_code as code_of_box}
 use Rattle.gm_geom.specs.declared.point.Point.{Point}
 use Rattle.gm_geom.specs.declared.point.Box2.{Box2}
-use Rattle.gm_geom.specs.Validity.{is_in_world}
+use Rattle.gm_geom.specs.Validity.{is_in_world, longitude_limit, latitude_limit}
 
 -- a number that is not below 0
 abbrev pub natural : ℤ → ℕ
@@ -18,12 +18,19 @@ natural (negsuc n) = 0
 abbrev pub along : ℕ → ℤ → ℕ
 along half z = natural (z +ℤ pos half)
 
+-- the size of the world in units
+abbrev pub world_width : ℕ
+world_width = 3600000000
+
+abbrev pub world_height : ℕ
+world_height = 1800000000
+
 -- the cell of a longitude, of a latitude, and of an offset in a bin, among 2^bits along each
 abbrev pub longitude_cell : ℕ → ℤ → ℕ
-longitude_cell bits x = normal_of (along 1800000000 x) 3600000000 bits
+longitude_cell bits x = normal_of (along longitude_limit x) world_width bits
 
 abbrev pub latitude_cell : ℕ → ℤ → ℕ
-latitude_cell bits y = normal_of (along 900000000 y) 1800000000 bits
+latitude_cell bits y = normal_of (along latitude_limit y) world_height bits
 
 abbrev pub time_cell : Period → ℕ → ℕ → ℕ
 time_cell period bits offset = normal_of offset (longest_of period) bits

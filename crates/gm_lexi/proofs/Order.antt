@@ -13,6 +13,7 @@ use Rattle.std.specs.declared.cmp.Ordering.TheVariants.{Less, Equal, Greater}
 use Rattle.byteorder.specs.Endian.{big_from, big_bytes}
 use Rattle.byteorder.specs.Numbers.{big_number-reads_back, big_from-cons, big_from-lt}
 use Rattle.byteorder.specs.Numbers.{length-bytes_high_first}
+use Rattle.gm_base.proofs.Numbers.{pow256}
 
 -- a front that both have does not count
 pub slice_cmp-front : (front a b : List ℕ)
@@ -38,12 +39,6 @@ same_parts (x ∷ a) (y ∷ b) s t long same =
 byte_at-pow : (k a : ℕ) → byte_at k a ≡ a / 256 ^ k % 256
 byte_at-pow zero a = ap (λ (x : ℕ). x % 256) (sym (div-one a))
 byte_at-pow (suc k) a = refl
-
-pow256 : (k : ℕ) → 256 ^ k ≡ 2 ^ (8 * k)
-pow256 zero = refl
-pow256 (suc k) =
-    let eight : 8 * suc k ≡ 8 * k + 8 = omega arith in
-    rw (pow-suc 256 k, pow256 k, eight, pow-add 2 (8 * k) 8) refl
 
 -- the highest of k + 1 bytes, and what the others say
 top_byte : (k a : ℕ) → a % 256 ^ suc k ≡ byte_at k a * 256 ^ k + a % 256 ^ k

@@ -12,14 +12,12 @@ use Rattle.std.specs.Cmp.{nat_cmp_is}
 use Rattle.std.specs.Cmp.Lexicographic.{slice_cmp}
 use Rattle.std.specs.declared.cmp.Ordering.{Ordering}
 use Rattle.std.specs.declared.cmp.Ordering.TheVariants.{Less, Equal, Greater}
+use Rattle.gm_base.proofs.Numbers.{not_full, is_less, is_greater, is_equal, none_is_least}
 use Rattle.gm_lexi.specs.Ends.{raised, after_of, is_before, is_from_to}
 
 -- ---- as told
 full_is : (byte : ℕ) → byte ≡ 255 → nat_eq byte 255 ≡ true
 full_is byte is = grind (arith, nat_tests)
-
-full_isnt : (byte : ℕ) → byte ≢ 255 → nat_eq byte 255 ≡ false
-full_isnt byte isnt = grind (arith, nat_tests)
 
 pub all_full : (n : ℕ) → after_of (replicate n 255) ≡ None
 all_full zero = refl
@@ -29,7 +27,7 @@ pub raised_last : (front : List ℕ) (byte n : ℕ) → byte ≢ 255
     → after_of (front ++ byte ∷ replicate n 255) ≡ Some (front ++ (byte + 1) ∷ [])
 raised_last [] byte n isnt =
     ap (raised byte) (all_full n)
-    ∙ ap (λ t. cond t None (Some ((byte + 1) ∷ []))) (full_isnt byte isnt)
+    ∙ ap (λ t. cond t None (Some ((byte + 1) ∷ []))) (not_full byte isnt)
 raised_last (x ∷ front) byte n isnt = ap (raised x) (raised_last front byte n isnt)
 
 -- a byte 0xFF at the end does not count
@@ -37,44 +35,30 @@ pub without_last : (front : List ℕ) → after_of (front ++ 255 ∷ []) ≡ aft
 without_last [] = refl
 without_last (x ∷ front) = ap (raised x) (without_last front)
 
--- ---- what lies within
-less_is : (x y : ℕ) → x < y → nat_cmp x y ≡ Less
-less_is x y less = sym (nat_cmp_is x y Less less)
-
-more_is : (x y : ℕ) → y < x → nat_cmp x y ≡ Greater
-more_is x y more = sym (nat_cmp_is x y Greater more)
-
-equal_is : (x y : ℕ) → x ≡ y → nat_cmp x y ≡ Equal
-equal_is x y same = sym (nat_cmp_is x y Equal same)
-
-none_is_least : (other : List ℕ) → is_le (slice_cmp nat_cmp [] other) ≡ true
-none_is_least [] = refl
-none_is_least (y ∷ other) = refl
-
 -- behind one first byte the end is that of what follows
 behind : (x y : ℕ) (e : Option (List ℕ)) (other : List ℕ) → x ≡ y
     → is_before (raised x e) (y ∷ other) ≡ is_before e other
 behind x y (Some rest) other same =
-    ap (λ r. not (is_le (ordering_then r (slice_cmp nat_cmp rest other)))) (equal_is x y same)
+    ap (λ r. not (is_le (ordering_then r (slice_cmp nat_cmp rest other)))) (is_equal x y same)
 behind x y None other same = ⊎_elim
     (λ full. ap (λ t. is_before (cond t None (Some ((x + 1) ∷ []))) (y ∷ other)) (full_is x full))
-    (λ isnt. ap (λ t. is_before (cond t None (Some ((x + 1) ∷ []))) (y ∷ other)) (full_isnt x isnt)
+    (λ isnt. ap (λ t. is_before (cond t None (Some ((x + 1) ∷ []))) (y ∷ other)) (not_full x isnt)
     ∙ ap (λ r. not (is_le (ordering_then r (slice_cmp nat_cmp [] other))))
-    (more_is (x + 1) y (omega arith)))
+    (is_greater (x + 1) y (omega arith)))
     (cases_eq x 255)
 
 -- a greater first byte is past the end
 past : (x y : ℕ) (e : Option (List ℕ)) (other : List ℕ) → x < y → y < 256
     → is_before (raised x e) (y ∷ other) ≡ false
 past x y (Some rest) other less small =
-    ap (λ r. not (is_le (ordering_then r (slice_cmp nat_cmp rest other)))) (less_is x y less)
+    ap (λ r. not (is_le (ordering_then r (slice_cmp nat_cmp rest other)))) (is_less x y less)
 past x y None other less small =
-    ap (λ t. is_before (cond t None (Some ((x + 1) ∷ []))) (y ∷ other)) (full_isnt x (omega arith))
+    ap (λ t. is_before (cond t None (Some ((x + 1) ∷ []))) (y ∷ other)) (not_full x (omega arith))
     ∙ ⊎_elim
     (λ same. ap (λ r. not (is_le (ordering_then r (slice_cmp nat_cmp [] other))))
-    (equal_is (x + 1) y same) ∙ ap not (none_is_least other))
+    (is_equal (x + 1) y same) ∙ ap not (none_is_least other))
     (λ isnt. ap (λ r. not (is_le (ordering_then r (slice_cmp nat_cmp [] other))))
-    (less_is (x + 1) y (omega arith)))
+    (is_less (x + 1) y (omega arith)))
     (cases_eq (x + 1) y)
 
 eq_is : (x y : ℕ) → x ≡ y → nat_eq x y ≡ true
@@ -92,12 +76,12 @@ by_first x y s q e other small rest =
     ⊎_elim
     (λ same. ap (λ t. t && s) (eq_is x y same) ∙ rest
     ∙ ap (λ t. is_le q && t) (sym (behind x y e other same))
-    ∙ ap (λ r. is_le (ordering_then r q) && end) (sym (equal_is x y same)))
+    ∙ ap (λ r. is_le (ordering_then r q) && end) (sym (is_equal x y same)))
     (⊎_elim
     (λ less. ap (λ t. t && s) (eq_isnt x y (omega arith)) ∙ sym (past x y e other less small)
-    ∙ ap (λ r. is_le (ordering_then r q) && end) (sym (less_is x y less)))
+    ∙ ap (λ r. is_le (ordering_then r q) && end) (sym (is_less x y less)))
     (λ more. ap (λ t. t && s) (eq_isnt x y (omega arith))
-    ∙ ap (λ r. is_le (ordering_then r q) && end) (sym (more_is x y more))))
+    ∙ ap (λ r. is_le (ordering_then r q) && end) (sym (is_greater x y more))))
     (cases_order x y)
 
 pub within : (bytes other : List ℕ)
@@ -138,12 +122,12 @@ raised_end bytes some small =
 lower_first : (x y : ℕ) (e : Option (List ℕ)) (other : List ℕ) → y < x
     → is_before (raised x e) (y ∷ other) ≡ true
 lower_first x y (Some rest) other lower =
-    ap (λ r. not (is_le (ordering_then r (slice_cmp nat_cmp rest other)))) (more_is x y lower)
+    ap (λ r. not (is_le (ordering_then r (slice_cmp nat_cmp rest other)))) (is_greater x y lower)
 lower_first x y None other lower = ⊎_elim
     (λ full. ap (λ t. is_before (cond t None (Some ((x + 1) ∷ []))) (y ∷ other)) (full_is x full))
-    (λ isnt. ap (λ t. is_before (cond t None (Some ((x + 1) ∷ []))) (y ∷ other)) (full_isnt x isnt)
+    (λ isnt. ap (λ t. is_before (cond t None (Some ((x + 1) ∷ []))) (y ∷ other)) (not_full x isnt)
     ∙ ap (λ r. not (is_le (ordering_then r (slice_cmp nat_cmp [] other))))
-    (more_is (x + 1) y (omega arith)))
+    (is_greater (x + 1) y (omega arith)))
     (cases_eq x 255)
 
 before_none : (x : ℕ) (e : Option (List ℕ)) → is_before (raised x e) [] ≡ true
@@ -161,12 +145,12 @@ high_by_front (x ∷ high) (y ∷ other) small =
     let later = slice_cmp nat_cmp (take (length high) other) high in
     ⊎_elim
     (λ same. behind x y (after_of high) other same ∙ high_by_front high other small.1
-    ∙ ap (λ r. is_le (ordering_then r later)) (sym (equal_is y x (sym same))))
+    ∙ ap (λ r. is_le (ordering_then r later)) (sym (is_equal y x (sym same))))
     (⊎_elim
     (λ less. past x y (after_of high) other less small.0
-    ∙ ap (λ r. is_le (ordering_then r later)) (sym (more_is y x less)))
+    ∙ ap (λ r. is_le (ordering_then r later)) (sym (is_greater y x less)))
     (λ more. lower_first x y (after_of high) other more
-    ∙ ap (λ r. is_le (ordering_then r later)) (sym (less_is y x more))))
+    ∙ ap (λ r. is_le (ordering_then r later)) (sym (is_less y x more))))
     (cases_order x y)
 
 pub low_by_front : (low other : List ℕ)

@@ -6,6 +6,7 @@ use Rattle.std.specs.Prelude.{if◌then◌else◌, nat_lt}
 use Rattle.std.specs.List.{AllByRecursion, flat_map, range_with_len}
 use Rattle.std.proofs.lemmas.Bool.{ltb-false}
 use Rattle.std.proofs.lemmas.Nat.{le-div}
+use Rattle.gm_base.proofs.Lists.{all_append}
 use Rattle.gm_base.specs.Spans.{Span}
 use Rattle.gm_calendar.specs.declared.period.Period.{Period}
 use Rattle.gm_calendar.specs.declared.period.Period.TheVariants.{Day, Week, Month, Year}
@@ -29,7 +30,7 @@ use Rattle.gm_plan.specs.Spans.{span_behind, spans_in}
 use Rattle.gm_plan.specs.Windows.{windows_in}
 use Rattle.gm_plan.proofs.ApartCodes.{ByteLaws, AreCurved, is_curved, shards_exclusive}
 use Rattle.gm_plan.proofs.ApartShards.{SmallRun, run_and_bin, in_bin_exclusive, plane_exclusive}
-use Rattle.gm_plan.proofs.ApartSpans.{Excludes, AreExclusive, exclusive_append, all_append}
+use Rattle.gm_plan.proofs.ApartSpans.{Excludes, AreExclusive, exclusive_append}
 use Rattle.gm_plan.proofs.InPlane.{runs_narrow, shards_few}
 use Rattle.gm_plan.proofs.Within.{CodeLaws, AreNarrow}
 

@@ -14,6 +14,8 @@ use Rattle.std.specs.declared.cmp.Ordering.{Ordering}
 use Rattle.std.specs.declared.cmp.Ordering.TheVariants.{Less, Equal, Greater}
 use Rattle.std.specs.Cmp.Lexicographic.{slice_cmp}
 use Rattle.byteorder.specs.Endian.{big_bytes}
+use Rattle.gm_base.proofs.Lists.{all_append}
+use Rattle.gm_base.proofs.Numbers.{is_greater}
 use Rattle.gm_base.specs.Spans.{Span}
 use Rattle.gm_lexi.specs.Ends.{after_of, is_before, is_from_to}
 use Rattle.gm_runs.specs.Runs.{AreRunsFrom}
@@ -28,7 +30,7 @@ use Rattle.gm_bounds.specs.declared.ranges.Range.TheVariants as range
 use Rattle.gm_plan.specs.KeyRanges.{code_range, bin_range}
 use Rattle.gm_plan.specs.Spans.{end_of, end_or_none, from_to, span_behind, spans_in}
 use Rattle.gm_plan.proofs.ApartSpans.{C, Excludes, rising, lows, AreExclusive, exclusive_append}
-use Rattle.gm_plan.proofs.ApartSpans.{all_append, le_trans}
+use Rattle.gm_plan.proofs.ApartSpans.{le_trans}
 use Rattle.gm_plan.proofs.Within.{CodeLaws, AreNarrow, within_is, code_end, bin_end, bin_code_end}
 use Rattle.gm_plan.proofs.Within.{prefix_end}
 
@@ -70,10 +72,6 @@ take_bytes zero xs h = tt
 take_bytes (suc n) [] h = tt
 take_bytes (suc n) (x ∷ xs) h = (h.0, take_bytes n xs h.1)
 
--- ---- two shards
-greater_is : (x y : ℕ) → y < x → nat_cmp x y ≡ Greater
-greater_is x y more = sym (nat_cmp_is x y Greater more)
-
 take_front : (front : List ℕ) (x : ℕ) (xs : List ℕ) (y : ℕ) (ys : List ℕ)
     → take (length (front ++ (x ∷ xs))) (front ++ (y ∷ ys)) ≡ front ++ (y ∷ take (length xs) ys)
 take_front [] x xs y ys = refl
@@ -104,7 +102,7 @@ shards_rise laws s kind a b x y less few bytes =
     (take (length (prefix ++ (a ∷ x))) (prefix ++ (b ∷ y))) all)
     ∙ ap (λ k. is_le (C k (prefix ++ (a ∷ x)))) front
     ∙ ap is_le (laws.shared prefix (b ∷ take (length x) y) (a ∷ x))
-    ∙ ap (λ o. is_le (ordering_then o (C (take (length x) y) x))) (greater_is b a less))
+    ∙ ap (λ o. is_le (ordering_then o (C (take (length x) y) x))) (is_greater b a less))
 
 -- what stands behind the shard in the front of a range's low end, and of its high end
 abbrev pub is_curved : Range → Bool

@@ -8,6 +8,7 @@ use Rattle.std.specs.Ordering.{nat_cmp, is_lt, is_le}
 use Rattle.std.specs.declared.cmp.Ordering.{Ordering}
 use Rattle.std.specs.declared.cmp.Ordering.TheVariants.{Less, Equal, Greater}
 use Rattle.std.specs.Cmp.Lexicographic.{slice_cmp}
+use Rattle.gm_base.proofs.Numbers.{less_of}
 use Rattle.gm_bounds.specs.declared.byte_range.ByteRange.{ByteRange}
 use Rattle.gm_bounds.specs.declared.ranges.Range.TheVariants as range
 use Rattle.gm_bounds.specs.ByteRange.{is_less, less, greater, greater_end, joined, is_void_to}
@@ -16,11 +17,6 @@ use Rattle.gm_plan.specs.KeyRanges.{value_range, value_ranges}
 use Rattle.gm_plan.specs.Merging.{ends_below, stands_before, merged_in, merged}
 use Rattle.gm_plan.specs.Spans.{span_behind, spans_in, value_end}
 use Rattle.gm_plan.proofs.ApartSpans.{C, turned, less_then_le, Excludes, rising, AreExclusive}
-
-lt_is : (o : Ordering) → is_lt o ≡ true → o ≡ Less
-lt_is Less h = refl
-lt_is Equal h = absurd (true≢false (sym h))
-lt_is Greater h = absurd (true≢false (sym h))
 
 -- ---- ranges in which something lies
 pub less_by : (low high : List ℕ) (o : Ordering) → C high low ≡ o → is_le o ≡ false
@@ -39,9 +35,9 @@ joined_by : (p q : Bool) (a b c d : List ℕ) → is_lt (C b a) ≡ q → is_lt 
     → C b d ≡ Less → is_le (C (if p then d else c) (if q then b else a)) ≡ false
 joined_by true true a b c d e f h g = not_le b d g
 joined_by true false a b c d e f h g =
-    not_le a d (nat_list_cmp_total.trans a c d h (lt_is (C c d) f))
+    not_le a d (nat_list_cmp_total.trans a c d h (less_of (C c d) f))
 joined_by false true a b c d e f h g =
-    not_le b c (nat_list_cmp_total.trans b a c (lt_is (C b a) e) h)
+    not_le b c (nat_list_cmp_total.trans b a c (less_of (C b a) e) h)
 joined_by false false a b c d e f h g = not_le a c h
 
 joined_ends : (a b : List ℕ) (c d : Option (List ℕ)) → is_void_to a c ≡ false
@@ -65,8 +61,8 @@ ends_through : (o : Option (List ℕ)) (low : List ℕ) (p : Option (List ℕ)) 
 ends_through None low p next h full g = h
 ends_through (Some a) low None next h full g = absurd (true≢false (sym g))
 ends_through (Some a) low (Some b) next h full g =
-    ap is_lt (nat_list_cmp_total.trans a low next (lt_is (C a low) h)
-    (nat_list_cmp_total.trans low b next (less_from low b full) (lt_is (C b next) g)))
+    ap is_lt (nat_list_cmp_total.trans a low next (less_of (C a low) h)
+    (nat_list_cmp_total.trans low b next (less_from low b full) (less_of (C b next) g)))
 
 less_one : (o : Option (List ℕ)) (q : Bool) (a b : List ℕ) → ends_below o a ≡ true
     → ends_below o b ≡ true → ends_below o (if q then b else a) ≡ true
@@ -147,7 +143,7 @@ module _ (shared : (front a b : List ℕ)
   ends_first : (o : Option (List ℕ)) (low : List ℕ) → ends_below o low ≡ true
       → is_le (C (value_end prefix o) (prefix ++ low)) ≡ true
   ends_first None low h = absurd (true≢false (sym h))
-  ends_first (Some high) low h = ap is_le (shared prefix high low ∙ lt_is (C high low) h)
+  ends_first (Some high) low h = ap is_le (shared prefix high low ∙ less_of (C high low) h)
 
   values_apart : (r s : ByteRange) → Before r s
       → Excludes (span_behind prefix shard (value_range r))

@@ -7,6 +7,8 @@ use Rattle.std.specs.List.{AllByRecursion, flat_map, range_with_len}
 use Rattle.std.proofs.lemmas.Bool.{ltb-false}
 use Rattle.std.proofs.lemmas.Bool.Decides.{nat_tests}
 use Rattle.std.proofs.lemmas.Nat.{le-div}
+use Rattle.gm_base.proofs.Lists.{all_append}
+use Rattle.gm_base.proofs.Numbers.{le_false, eq_false}
 use Rattle.gm_base.specs.Spans.{Span}
 use Rattle.gm_calendar.specs.declared.period.Period.{Period}
 use Rattle.gm_calendar.specs.declared.period.Period.TheVariants.{Day, Week, Month, Year}
@@ -31,15 +33,9 @@ use Rattle.gm_plan.specs.KeyRanges.{space_ranges, span_of_bins}
 use Rattle.gm_plan.specs.Spans.{end_of, span_behind, spans_in}
 use Rattle.gm_plan.specs.Windows.{windows_in}
 use Rattle.gm_plan.proofs.ApartCodes.{ByteLaws, AreCurved, is_curved, shards_exclusive}
-use Rattle.gm_plan.proofs.ApartSpans.{Excludes, lows, AreExclusive, exclusive_append, all_append}
+use Rattle.gm_plan.proofs.ApartSpans.{Excludes, lows, AreExclusive, exclusive_append}
 use Rattle.gm_plan.proofs.InPlane.{runs_narrow, shards_few}
 use Rattle.gm_plan.proofs.Within.{CodeLaws, AreNarrow, within_is, code_end, bin_code_end}
-
-le_no : (a b : ℕ) → b < a → nat_le a b ≡ false
-le_no a b h = grind (arith, nat_tests)
-
-eq_no : (a b : ℕ) → (a ≡ b → ⊥) → (a == b) ≡ false
-eq_no a b h = grind (arith, nat_tests)
 
 none_first : (x y z : Bool) → y ≡ false → (x && (y && z)) ≡ false
 none_first true y z h = ap (λ b. b && z) h
@@ -88,9 +84,9 @@ module _ (laws : CodeLaws) (s : Specification) (kind : IndexKind) (shard : ℕ)
   codes_apart level low high low' high' one other less =
       lows (code low, end_of (code high)) (code low', end_of (code high'))
       (code_not low high low' one other.low_small
-      (second (nat_le low low') (nat_le low' high) (le_no low' high less)))
+      (second (nat_le low low') (nat_le low' high) (le_false low' high less)))
       (code_not low' high' low other one.low_small
-      (ap (λ b. b && nat_le low high') (le_no low' low (chain low high low' one.rises less))))
+      (ap (λ b. b && nat_le low high') (le_false low' low (chain low high low' one.rises less))))
     where
       second : (x y : Bool) → y ≡ false → (x && y) ≡ false
       second true y e = e
@@ -121,10 +117,10 @@ module _ (laws : CodeLaws) (s : Specification) (kind : IndexKind) (shard : ℕ)
   bin_codes_apart n level low high low' high' small one other less =
       lows (in_bin n low, end_of (in_bin n high)) (in_bin n low', end_of (in_bin n high'))
       (bin_not n n low high low' small small one other.low_small
-      (none_last (n == n) (nat_le low low') (nat_le low' high) (le_no low' high less)))
+      (none_last (n == n) (nat_le low low') (nat_le low' high) (le_false low' high less)))
       (bin_not n n low' high' low small small other one.low_small
       (none_first (n == n) (nat_le low' low) (nat_le low high')
-      (le_no low' low (chain low high low' one.rises less))))
+      (le_false low' low (chain low high low' one.rises less))))
     where
       chain : (a b c : ℕ) → a ≤ b → b < c → a < c
       chain a b c h g = omega arith
@@ -137,10 +133,10 @@ module _ (laws : CodeLaws) (s : Specification) (kind : IndexKind) (shard : ℕ)
       lows (in_bin n low, end_of (in_bin n high)) (in_bin m low', end_of (in_bin m high'))
       (bin_not n m low high low' small-n small-m one other.low_small
       (ap (λ b. b && (nat_le low low' && nat_le low' high))
-      (eq_no n m (λ e. unlike n m less e))))
+      (eq_false n m (λ e. unlike n m less e))))
       (bin_not m n low' high' low small-m small-n other one.low_small
       (ap (λ b. b && (nat_le low' low && nat_le low high'))
-      (eq_no m n (λ e. unlike n m less (sym e)))))
+      (eq_false m n (λ e. unlike n m less (sym e)))))
     where
       unlike : (a b : ℕ) → a < b → a ≡ b → ⊥
       unlike a b h e = omega arith

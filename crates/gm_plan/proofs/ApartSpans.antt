@@ -8,6 +8,8 @@ use Rattle.std.specs.Ordering.{nat_cmp, is_le, ordering_reverse}
 use Rattle.std.specs.declared.cmp.Ordering.{Ordering}
 use Rattle.std.specs.declared.cmp.Ordering.TheVariants.{Less, Equal, Greater}
 use Rattle.std.specs.Cmp.Lexicographic.{slice_cmp}
+use Rattle.gm_base.proofs.Lists.{all_append}
+use Rattle.gm_base.proofs.Booleans.{false_of_never}
 use Rattle.gm_base.specs.Spans.{Span}
 use Rattle.gm_table.specs.Apart.{times_inside, AreApart}
 use Rattle.gm_table.specs.Sorted.{is_within}
@@ -89,14 +91,10 @@ lows_by a b false o h g key within within' =
     behind true false e h k = true≢false h
     behind false false e h k = true≢false (sym e)
 
-not_true : (b : Bool) → (b ≡ true → ⊥) → b ≡ false
-not_true true h = absurd (h refl)
-not_true false h = refl
-
 pub lows : (a b : Span) → is_within a.0 a.1 b.0 ≡ false → is_within b.0 b.1 a.0 ≡ false
     → Excludes a b
 lows a b h g = record {
-  never = λ key within. not_true (is_within b.0 b.1 key)
+  never = λ key within. false_of_never (is_within b.0 b.1 key)
       (λ within'. lows_by a b (is_le (C a.0 b.0)) refl h g key within within');
 }
 
@@ -124,11 +122,6 @@ exclusive_are_apart [] h key = omega arith
 exclusive_are_apart (x ∷ xs) h key =
     few_by (is_within x.0 x.1 key) (times_inside key xs) (none_after key x xs h.0)
     (exclusive_are_apart xs h.1 key)
-
-pub all_append : {X : Type 0} (P : X → Type 0) (xs ys : List X) → AllByRecursion P xs
-    → AllByRecursion P ys → AllByRecursion P (xs ++ ys)
-all_append P [] ys h g = g
-all_append P (x ∷ xs) ys h g = (h.0, all_append P xs ys h.1 g)
 
 pub exclusive_append : (xs ys : List Span) → AreExclusive xs → AreExclusive ys
     → AllByRecursion (λ x. AllByRecursion (λ y. Excludes x y) ys) xs → AreExclusive (xs ++ ys)

@@ -6,6 +6,7 @@ use Rattle.std.specs.Prelude.{option_to_list}
 use Rattle.std.specs.List.{AllByRecursion, flat_map, range_with_len}
 use Rattle.std.specs.Ordering.{nat_cmp}
 use Rattle.std.specs.Cmp.Lexicographic.{slice_cmp}
+use Rattle.gm_base.proofs.Lists.{all_append}
 use Rattle.gm_types.specs.declared.kind.Kind.{Kind}
 use Rattle.gm_types.specs.Specification.{Specification, kind_at}
 use Rattle.gm_lexi.specs.Lexicode.{date_bytes}
@@ -33,7 +34,7 @@ use Rattle.gm_plan.specs.Spans.{spans_in}
 use Rattle.gm_plan.proofs.ApartBounds.{IsOf, Keeps, of_tree}
 use Rattle.gm_plan.proofs.ApartIds.{one_shard}
 use Rattle.gm_plan.proofs.ApartMerged.{AreFull, joined_full, all_rise, values_exclusive}
-use Rattle.gm_plan.proofs.ApartSpans.{AreExclusive, all_append}
+use Rattle.gm_plan.proofs.ApartSpans.{AreExclusive}
 
 -- ---- lists
 kept_by : (b : Bool) (r : ByteRange) (ranges : List ByteRange) → is_void r ≡ b → AreFull ranges

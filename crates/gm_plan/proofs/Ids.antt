@@ -7,6 +7,7 @@ use Rattle.std.specs.List.{list_any}
 use Rattle.std.specs.Ordering.{nat_cmp, is_le}
 use Rattle.std.specs.Cmp.Lexicographic.{slice_cmp, pointwise, bytes_decides}
 use Rattle.std.specs.Str.{bytes_eq}
+use Rattle.gm_base.proofs.Numbers.{none_is_least}
 use Rattle.gm_lexi.specs.Ends.{after_of, is_from_to}
 use Rattle.gm_table.specs.Sorted.{is_within}
 use Rattle.gm_types.specs.declared.index.IndexKind.{IndexKind}
@@ -32,10 +33,6 @@ pub record IdLaws : Type 0 where
   pub one : (key other : List ℕ)
       → is_from_to key (Some (key ++ 0 ∷ [])) other ≡ pointwise nat_eq key other
 
-nothing_first : (rest : List ℕ) → is_le (slice_cmp nat_cmp [] rest) ≡ true
-nothing_first [] = refl
-nothing_first (x ∷ xs) = refl
-
 module _ (laws : IdLaws) (s : Specification) (id : List ℕ) where
   abbrev key : List ℕ
   key = prefix_of s Id ++ id
@@ -45,7 +42,7 @@ module _ (laws : IdLaws) (s : Specification) (id : List ℕ) where
       within_is (prefix_of s Id) (prefix_of s Id) key (prefix_end_alone s Id)
       ∙ ap (λ low. is_from_to low (after_of (prefix_of s Id)) key)
       (sym (append-nil (prefix_of s Id)))
-      ∙ laws.to_the_end s Id [] id ∙ nothing_first id
+      ∙ laws.to_the_end s Id [] id ∙ none_is_least id
 
   in_own : (other : List ℕ) → bytes_eq id other ≡ true
       → is_within (prefix_of s Id ++ other) ((prefix_of s Id ++ other) ++ 0 ∷ []) key ≡ true

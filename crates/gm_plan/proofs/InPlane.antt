@@ -6,6 +6,7 @@ use Rattle.std.proofs.lemmas.Bool.{leb-true}
 use Rattle.std.proofs.lemmas.Int.{ints}
 use Rattle.std.specs.Prelude.{ℤ, int_le, ◌≤ℤ◌, leb, slice_index_or}
 use Rattle.std.specs.List.{list_any, flat_map, range_with_len}
+use Rattle.gm_base.proofs.Numbers.{le_from, le_to}
 use Rattle.gm_geom.specs.declared.point.Point.{Point}
 use Rattle.gm_geom.specs.declared.point.Box2.{Box2}
 use Rattle.gm_shapes.specs.Segment.{do_overlap, reaches}
@@ -27,12 +28,6 @@ use Rattle.gm_plan.specs.Spans.{spans_in}
 use Rattle.gm_plan.specs.Windows.{window_of, windows_of}
 use Rattle.gm_plan.proofs.Rising.{Rises, longitude_rises, latitude_rises, shards_listed}
 use Rattle.gm_plan.proofs.Within.{CodeLaws, AreNarrow, codes_inside, any_range}
-
-pub le_from : (m n : ℤ) → int_le m n ≡ true → m ≤ℤ n
-le_from m n h = omega (arith, ints, h)
-
-pub le_to : (m n : ℤ) → m ≤ℤ n → int_le m n ≡ true
-le_to m n h = sym (omega (arith, ints, h))
 
 -- two cells' box overlaps the window of a box that its corners overlap
 pub overlap_in_plane : Rises → (bits : ℕ) (low high : Point) (b : Box2) → low.x ≤ℤ b.high.x

@@ -9,6 +9,8 @@ use Rattle.std.proofs.Math.Nat.{div-mul-le_self}
 use Rattle.std.specs.Prelude.{ℤ, pos, negsuc, ◌≤ℤ◌, ◌<ℤ◌, ◌-ℤ◌, leb, nat_le, nat_lt, ◌==◌}
 use Rattle.std.specs.Prelude.{slice_index, unsigned_abs, if◌then◌else◌}
 use Rattle.std.specs.List.{list_any, flat_map, range_with_len, AllByRecursion}
+use Rattle.gm_base.proofs.Lists.{any_map}
+use Rattle.gm_base.proofs.Numbers.{le_true, eq_true, le_from, le_to}
 use Rattle.gm_calendar.specs.declared.period.Period.{Period}
 use Rattle.gm_calendar.specs.declared.period.Period.TheVariants.{Day, Week, Month, Year}
 use Rattle.gm_calendar.specs.declared.bin.Bin.{Bin}
@@ -39,12 +41,12 @@ use Rattle.gm_plan.specs.KeyRanges.{bin_range, bin_ranges, ranges_in_bins, space
 use Rattle.gm_plan.specs.KeyRanges.{span_of_bins}
 use Rattle.gm_plan.specs.Spans.{spans_in, span_behind, end_of}
 use Rattle.gm_plan.specs.Windows.{window_in, windows_in}
-use Rattle.gm_plan.proofs.InPlane.{Overlap, ShardLaw, shards_few, runs_narrow, le_from, le_to}
-use Rattle.gm_plan.proofs.Members.{AreRising, any_map, any_kept, any_in_flat, stands, filter_rises}
+use Rattle.gm_plan.proofs.InPlane.{Overlap, ShardLaw, shards_few, runs_narrow}
+use Rattle.gm_plan.proofs.Members.{AreRising, any_kept, any_in_flat, stands, filter_rises}
 use Rattle.gm_plan.proofs.Members.{filter_below, at_below, first_most, last_least, some_of}
 use Rattle.gm_plan.proofs.Rising.{Rises, longitude_rises, latitude_rises}
 use Rattle.gm_plan.proofs.Within.{CodeLaws, AreNarrow, any_flat, any_range, within_is, bin_end}
-use Rattle.gm_plan.proofs.Within.{bin_code_end, le_true, same_number}
+use Rattle.gm_plan.proofs.Within.{bin_code_end}
 
 -- ---- offsets rise
 abs_rises : (m n : ℤ) → pos 0 ≤ℤ m → m ≤ℤ n → unsigned_abs m ≤ unsigned_abs n
@@ -199,8 +201,8 @@ in_bin_inside laws s kind shard number level code id (run ∷ runs) few small na
     ∙ laws.in_bin s kind shard shard number number run.0 run.1 code id few small small narrow.0.0
     narrow.0.1 (below has.1 narrow.0.1)
     ∙ and_from (shard == shard) ((number == number) && (nat_le run.0 code && nat_le code run.1))
-    (same_number shard)
-    (and_from (number == number) (nat_le run.0 code && nat_le code run.1) (same_number number)
+    (eq_true shard)
+    (and_from (number == number) (nat_le run.0 code && nat_le code run.1) (eq_true number)
     (and_from (nat_le run.0 code) (nat_le code run.1) (le_true run.0 code has.0)
     (le_true code run.1 has.1))))
   where
@@ -266,7 +268,7 @@ module _ (laws : CodeLaws) (shards : ShardLaw) (s : Specification) (kind : Index
       number code id few first last small
       ∙ and_from (shard == shard)
       (nat_le (slice_index bins 0) number && nat_le number (slice_index bins (length bins - 1)))
-      (same_number shard)
+      (eq_true shard)
       (and_from (nat_le (slice_index bins 0) number)
       (nat_le number (slice_index bins (length bins - 1))) (le_true _ _ low)
       (le_true _ _ high)))

@@ -6,12 +6,8 @@ use Rattle.std.proofs.lemmas.Bool.{or_left, or_right, or_cases}
 use Rattle.std.proofs.lemmas.List.Folds.{list_any-append}
 use Rattle.std.specs.Prelude.{slice_index}
 use Rattle.std.specs.List.{list_any, flat_map, range_with_len, AllByRecursion}
+use Rattle.gm_base.proofs.Lists.{any_map}
 use Rattle.gm_plan.proofs.Times.{filter_split, skip}
-
-pub any_map : {X Y : Type 0} (p : Y → Bool) (f : X → Y) (xs : List X)
-    → list_any p (map f xs) ≡ list_any (λ x. p (f x)) xs
-any_map p f [] = refl
-any_map p f (x ∷ xs) = ap (λ b. p (f x) || b) (any_map p f xs)
 
 -- where one of the first list passes, something of the second does
 pub any_kept : {X Y : Type 0} (test keep : X → Bool) (q : Y → Bool) (f : X → Y)

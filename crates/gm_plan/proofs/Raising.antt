@@ -5,6 +5,7 @@ use Rattle.std.proofs.Common.{slice_set, refl, sym, ap, ◌∙◌, arith}
 use Rattle.std.proofs.lemmas.List.{take_more}
 use Rattle.std.proofs.lemmas.Bool.Decides.{nat_tests}
 use Rattle.std.proofs.lemmas.Grind.{take-set_at}
+use Rattle.gm_base.proofs.Numbers.{not_full}
 use Rattle.gm_lexi.specs.Ends.{raised, after_of}
 use Rattle.gm_plan.specs.Raised.{up_to}
 use Rattle.gm_plan.specs.Spans.{from_to, end_or_none}
@@ -14,12 +15,9 @@ without_last : (front : List ℕ) → after_of (front ++ 255 ∷ []) ≡ after_o
 without_last [] = refl
 without_last (x ∷ front) = ap (raised x) (without_last front)
 
-full_isnt : (byte : ℕ) → byte ≢ 255 → nat_eq byte 255 ≡ false
-full_isnt byte isnt = grind (arith, nat_tests)
-
 raised_last : (front : List ℕ) (byte : ℕ) → byte ≢ 255
     → after_of (front ++ byte ∷ []) ≡ Some (front ++ (byte + 1) ∷ [])
-raised_last [] byte isnt = ap (λ t. cond t None (Some ((byte + 1) ∷ []))) (full_isnt byte isnt)
+raised_last [] byte isnt = ap (λ t. cond t None (Some ((byte + 1) ∷ []))) (not_full byte isnt)
 raised_last (x ∷ front) byte isnt = ap (raised x) (raised_last front byte isnt)
 
 split_at : (bytes : List ℕ) (end : ℕ) → 0 < end → end ≤ length bytes

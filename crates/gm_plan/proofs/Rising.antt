@@ -5,6 +5,7 @@ use Rattle.std.proofs.lemmas.Int.{ints}
 use Rattle.std.proofs.lemmas.Nat.{pow_pos}
 use Rattle.std.specs.Prelude.{codes, ℤ, pos, negsuc, ◌+ℤ◌, ◌≤ℤ◌, option_and_then, unwrap_or}
 use Rattle.std.specs.Prelude.{if◌then◌else◌}
+use Rattle.gm_base.proofs.Numbers.{two_below, three_below}
 use Rattle.gm_calendar.specs.declared.period.Period.{Period}
 use Rattle.gm_calendar.specs.Period.{longest_of}
 use Rattle.gm_curve.specs.Scale.{normal_of}
@@ -45,17 +46,6 @@ normal_below u span bits = least_one (2 ^ bits) (u * 2 ^ bits / span) (pow_pos b
   where
     least_one : (cells at : ℕ) → 0 < cells → min (cells - 1) at < cells
     least_one cells at some = omega arith
-
-two_below : (m a b : ℕ) → a < m → b < m → All (λ x. x < m) (a ∷ b ∷ [])
-two_below m a b first second zero d within = first
-two_below m a b first second (suc zero) d within = second
-two_below m a b first second (suc (suc k)) d within = absurd (omega arith)
-
-three_below : (m a b c : ℕ) → a < m → b < m → c < m → All (λ x. x < m) (a ∷ b ∷ c ∷ [])
-three_below m a b c first second third zero d within = first
-three_below m a b c first second third (suc zero) d within = second
-three_below m a b c first second third (suc (suc zero)) d within = third
-three_below m a b c first second third (suc (suc (suc k))) d within = absurd (omega arith)
 
 pub are_cells : (bits : ℕ) (p : Point) → AreCoordinates 2 bits (cells_of bits p)
 are_cells bits p = record {

@@ -2,6 +2,7 @@
 use Rattle.std.proofs.Common.{◌≡◌, ℕ, zero, suc, ◌+◌, ◌-◌, ◌*◌, ◌^◌, ◌<◌, ◌≤◌, sym, ap, ◌∙◌, ◌⊎◌}
 use Rattle.std.proofs.Common.{inl, inr, arith, subst}
 use Rattle.std.proofs.lemmas.Nat.{pow_below, pow-add}
+use Rattle.gm_base.proofs.Numbers.{two_at_least}
 use Rattle.gm_curve.specs.Listing.{sequence_count}
 use Rattle.gm_trees.specs.Z.{z_shape, IsZSize}
 use Rattle.gm_trees.specs.Xz.{xz_shape, IsXzSize}
@@ -16,11 +17,6 @@ z_room D B size =
     let less : D * B < 64 = omega arith in
     subst (λ b. 0 + (2 ^ (D * b) - 1) < 2 ^ 64) (sym e)
     (less_one (2 ^ (D * B)) (2 ^ 64) (pow_below (D * B) 64 less))
-
-two_at_least : (D : ℕ) → 1 ≤ D → 2 ≤ 2 ^ D
-two_at_least (suc zero) h = omega arith
-two_at_least (suc (suc d)) h = omega (arith, pow_below 1 (suc (suc d)) (omega arith))
-two_at_least zero h = absurd (omega arith)
 
 next_count : (q c p : ℕ) → 2 ≤ q → c + 1 ≤ p → 1 + q * c + 1 ≤ q * p
 next_count q c p two h = grind arith

@@ -9,6 +9,7 @@ use Rattle.std.proofs.lemmas.List.Elements.{filter-append}
 use Rattle.std.specs.Prelude.{ℤ, pos, int_le, ◌≤ℤ◌, ◌<ℤ◌}
 use Rattle.std.specs.Int.{int_min, int_max}
 use Rattle.std.specs.List.{range_with_len, AllByRecursion}
+use Rattle.gm_base.proofs.Numbers.{le_from}
 use Rattle.gm_calendar.specs.declared.period.Period.{Period}
 use Rattle.gm_calendar.specs.Bin.{first_ms, last_ms, LiesIn, bin_start}
 use Rattle.gm_calendar.specs.Instant.{day_ms}
@@ -17,9 +18,6 @@ use Rattle.gm_plan.specs.Bins.{not_before, not_after, start_in, end_in, meets_bi
 
 not_le : (m n : ℤ) → n <ℤ m → int_le m n ≡ false
 not_le m n h = sym (omega (arith, ints, h))
-
-from_le : (m n : ℤ) → int_le m n ≡ true → m ≤ℤ n
-from_le m n h = omega (arith, ints, h)
 
 pub end_most : (o : Option ℤ) (last : ℤ) → not_after o last ≤ℤ last
 end_most None last = omega (arith, ints)
@@ -194,7 +192,7 @@ pub end_lies : (period : Period) (number : ℕ) (i : Interval) → meets_bin per
     → LiesIn period (end_in period number i) number
 end_lies period number i h = (
   chain (first_ms period number) (start_in period number i) (end_in period number i)
-      (start_least i.low (first_ms period number)) (from_le _ _ h),
+      (start_least i.low (first_ms period number)) (le_from _ _ h),
   end_most i.high (last_ms period number),
 )
   where

@@ -7,6 +7,7 @@ use Rattle.std.specs.List.{list_any, flat_map, range_with_len, AllByRecursion}
 use Rattle.std.proofs.lemmas.Bool.{and_from, or_left, or_right, le-leb, eqb-true, eq-eqb}
 use Rattle.std.proofs.lemmas.List.Folds.{list_any-append}
 use Rattle.byteorder.specs.Endian.{big_bytes}
+use Rattle.gm_base.proofs.Numbers.{eq_true, le_true}
 use Rattle.gm_runs.specs.Runs.{HasNumber}
 use Rattle.gm_lexi.specs.Ends.{after_of, raised, is_from_to}
 use Rattle.gm_table.specs.Sorted.{is_within}
@@ -147,12 +148,6 @@ pub record CodeLaws : Type 0 where
 abbrev pub AreNarrow : List (ℕ × ℕ) → Type 0
 AreNarrow runs = AllByRecursion (λ run. (run.0 < 2 ^ 64) × (run.1 < 2 ^ 64)) runs
 
-pub same_number : (n : ℕ) → (n == n) ≡ true
-same_number n = eq-eqb n n refl
-
-pub le_true : (a b : ℕ) → a ≤ b → nat_le a b ≡ true
-le_true a b h = le-leb a b h
-
 -- a key is in the spans of its shard's runs where its code is in the runs
 pub codes_inside : CodeLaws
     → (s : Specification) (kind : IndexKind) (shard level code : ℕ) (id : List ℕ)
@@ -168,7 +163,7 @@ codes_inside laws s kind shard level code id (run ∷ runs) few narrow (inl has)
     (code_end s kind shard run.1)
     ∙ laws.codes s kind shard shard run.0 run.1 code id few narrow.0.0 narrow.0.1
     (below has.1 narrow.0.1)
-    ∙ and_from (shard == shard) (nat_le run.0 code && nat_le code run.1) (same_number shard)
+    ∙ and_from (shard == shard) (nat_le run.0 code && nat_le code run.1) (eq_true shard)
     (and_from (nat_le run.0 code) (nat_le code run.1) (le_true run.0 code has.0)
     (le_true code run.1 has.1)))
   where

@@ -7,6 +7,7 @@ use Rattle.std.proofs.Math.Nat.{le_refl}
 use Rattle.std.proofs.lemmas.Nat.{div_below}
 use Rattle.std.proofs.lemmas.Int.{ints, clamps}
 use Rattle.std.proofs.lemmas.Bool.{and_from, leb-true, leb-false, cases_lt}
+use Rattle.gm_base.proofs.Numbers.{le_to}
 use Rattle.gm_geom.specs.declared.point.Box2.{Box2}
 use Rattle.gm_shapes.specs.Segment.{box_of}
 use Rattle.gm_prepared.specs.declared.edge.Edge.{Edge}
@@ -33,9 +34,6 @@ starts_by h n k d high some = (
       (div-lt_iff_lt-mul {k = n} {x = k * h} {y = d + 1} some).1 times in
       omega (arith, under),
 )
-
-is_le : (x y : ℤ) → x ≤ℤ y → int_le x y ≡ true
-is_le x y h = sym (omega (arith, ints, h))
 
 by_test : (x y : ℤ) (m n : ℕ) (s t : Bool) → int_le x y ≡ s → nat_le m n ≡ t
     → (x ≤ℤ y) ↔ (m ≤ n) → s ≡ t
@@ -138,9 +136,9 @@ meets_at box y e from low high =
     let over : y ≤ℤ band_high box (band_at box y) =
     (high_by box (band_at box y) y from).1 (le_refl (band_at box y)) in
     and_from _ _
-    (is_le (band_low box (band_at box y)) (box_of (segment_of e)).high.y
+    (le_to (band_low box (band_at box y)) (box_of (segment_of e)).high.y
     (omega (arith, ints, under, high)))
-    (is_le (box_of (segment_of e)).low.y (band_high box (band_at box y))
+    (le_to (box_of (segment_of e)).low.y (band_high box (band_at box y))
     (omega (arith, ints, over, low)))
 
 -- an edge meets the bands from that of its lesser end to that of its greater

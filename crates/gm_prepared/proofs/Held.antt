@@ -8,6 +8,7 @@ use Rattle.std.specs.List.{list_any, count_by}
 use Rattle.std.proofs.lemmas.Bool.{both_ways, ne_eqb, eq-eqb}
 use Rattle.std.proofs.lemmas.List.{drop_more}
 use Rattle.std.proofs.lemmas.List.Elements.{filter-append}
+use Rattle.gm_base.proofs.Booleans.{or_false}
 use Rattle.gm_geom.specs.declared.point.Point.{Point}
 use Rattle.gm_shapes.specs.declared.segment.Segment.{Segment}
 use Rattle.gm_shapes.specs.Segment.{do_meet}
@@ -188,10 +189,6 @@ fresh_next n = record { fresh = λ m h. ne_eqb n m (λ e. absurd (omega (arith, 
 
 pub fresh_later : (area : Option ℕ) (n : ℕ) → IsFresh area n → IsFresh area (suc n)
 fresh_later area n new = record { fresh = λ m h. new.fresh m (omega (arith, h)) }
-
-pub or_false : (b : Bool) → b ≡ (b || false)
-or_false true = refl
-or_false false = refl
 
 held_areas : (p : Point) (keep : Edge → Bool) (near : KeepsNear p keep)
     (areas : List (List (List Point))) (n : ℕ) (area : Option ℕ) (odd : Bool) → IsFresh area n

@@ -6,6 +6,7 @@ use Rattle.std.specs.Prelude.{filter}
 use Rattle.std.specs.List.{list_any}
 use Rattle.std.proofs.lemmas.Bool.{eq-eqb}
 use Rattle.std.proofs.lemmas.List.Elements.{filter-append}
+use Rattle.gm_base.proofs.Booleans.{or_false}
 use Rattle.gm_geom.specs.declared.point.Point.{Point}
 use Rattle.gm_shapes.specs.declared.segment.Segment.{Segment}
 use Rattle.gm_shapes.specs.Segment.{do_meet}
@@ -19,7 +20,7 @@ use Rattle.gm_prepared.specs.Area.{is_one_area, differs}
 use Rattle.gm_prepared.specs.Standing.{no_edges, is_inside, with_edge, has_inside}
 use Rattle.gm_prepared.proofs.Lists.{differs_assoc, odd_count-cons}
 use Rattle.gm_prepared.proofs.Held.{KeepsNear, IsFresh, fresh_next, fresh_later, differs_false}
-use Rattle.gm_prepared.proofs.Held.{only_true, or_false, on_some, crosses_oddly}
+use Rattle.gm_prepared.proofs.Held.{only_true, on_some, crosses_oddly}
 
 -- where a point stands after these segments too
 abbrev inside_with : Point → Standing → List Segment → Bool

@@ -10,6 +10,7 @@ use Rattle.std.proofs.lemmas.Int.{ints}
 use Rattle.std.proofs.lemmas.List.{get_or_read}
 use Rattle.std.proofs.lemmas.List.Concat.{flat_map-append}
 use Rattle.std.proofs.lemmas.List.Folds.{list_any-append}
+use Rattle.gm_base.proofs.Booleans.{fails_with}
 use Rattle.gm_geom.specs.declared.point.Point.{Point}
 use Rattle.gm_geom.specs.declared.point.Box2.{Box2}
 use Rattle.gm_geom.specs.declared.geometry.Geometry.{Geometry}
@@ -49,11 +50,6 @@ prepared_of geometry same b edges lists copied numbered kept extent held flat ba
       flat = flat;
       bands = subst Q numbered bands;
     })
-
--- a test that fails settles one that only it lets pass
-pub fails_with : (t u seen : Bool) → (u ≡ true → t ≡ true) → seen ≡ t → seen ≡ false → seen ≡ u
-fails_with t u seen only e f =
-    f ∙ sym (false_from_ne_true u (λ h. both_ways t (sym e ∙ f) (only h)))
 
 overlaps_at : (b : Box2) (p : Point) → IsInBox b p → do_overlap (lone_box p) b ≡ true
 overlaps_at b p at =

@@ -5,6 +5,7 @@ use Rattle.std.specs.List.{list_any, AllByRecursion}
 use Rattle.std.proofs.lemmas.Int.{ints, clamps}
 use Rattle.std.proofs.lemmas.List.{map-append, append_assoc}
 use Rattle.std.proofs.lemmas.List.Concat.{flat_map-append}
+use Rattle.gm_base.proofs.Lists.{any_map}
 use Rattle.gm_geom.specs.declared.point.Point.{Point}
 use Rattle.gm_geom.specs.declared.point.Box2.{Box2}
 use Rattle.gm_geom.specs.declared.geometry.Geometry.{Geometry}
@@ -43,11 +44,6 @@ lists_edges geometry =
     ++ rest) (area_segments 0 (areas_of geometry))
     ∙ append_assoc (map lone_edge (lone_points_of geometry)) (edges_between_all (lines_of geometry))
     (edges_between_all (rings_of geometry))
-
-any_map : {X Y : Type 0} (test : Y → Bool) (f : X → Y) (xs : List X)
-    → list_any test (map f xs) ≡ list_any (λ x. test (f x)) xs
-any_map test f [] = refl
-any_map test f (x ∷ xs) = ap (λ b. test (f x) || b) (any_map test f xs)
 
 -- what is tested of each numbered edge is tested of each edge
 pub any_numbered : (test : Segment → Bool) (geometry : Geometry)

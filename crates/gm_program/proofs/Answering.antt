@@ -13,6 +13,10 @@ use Rattle.std.specs.FinMap as map_of
 use Rattle.std.specs.FinMap.{find, is_sorted, entries_sorted, get-entries}
 use Rattle.std.specs.FinMap.{slice_cmp-IsAntisymmetric, nat_cmp-IsAntisymmetric}
 use Rattle.std.specs.FinMap.Entries.{below_all, same_entries}
+use Rattle.gm_base.proofs.Options.{same_some}
+use Rattle.gm_base.proofs.Booleans.{true_or_false}
+use Rattle.gm_base.proofs.Lists.{each_as}
+use Rattle.gm_base.proofs.Booleans.{both_from-T}
 use Rattle.gm_feature.specs.declared.feature.Feature.{Feature}
 use Rattle.gm_feature.specs.declared.value.Value.{Value}
 use Rattle.gm_filter.specs.Tree.{Tree}
@@ -20,8 +24,7 @@ use Rattle.gm_filter.specs.Truth.{is_true}
 use Rattle.gm_engine_rows.specs.State.{State, Features, features_of, feature_at}
 use Rattle.gm_program.specs.Collecting.{Collected, feature_of, values_if, Collects}
 use Rattle.gm_program.specs.Question.{answer}
-use Rattle.gm_program.proofs.Bound.{same_some}
-use Rattle.gm_program.proofs.Collected.{is_key, same_key, key_itself, true_or_false, both_true}
+use Rattle.gm_program.proofs.Collected.{is_key, same_key, key_itself, both_true}
 use Rattle.gm_program.proofs.Collected.{AreNamed}
 
 abbrev pub Entry : Type 0
@@ -36,10 +39,6 @@ abbrev values_where : (Feature → Bool) → Option Feature → Option (List Val
 values_where test None = None
 values_where test (Some f) = if test f then Some f.values else None
 
-both : (a b : Bool) → T a → T b → T (a && b)
-both true b here rest = rest
-both false b here rest = absurd here
-
 below_passing : (test : Feature → Bool) (key : List ℕ) (es : List Entry)
     → T (below_all (slice_cmp nat_cmp) key es)
     → T (below_all (slice_cmp nat_cmp) key (passing test es))
@@ -50,7 +49,7 @@ below_passing test key (e ∷ es) below =
     elim (test e.1) as
     (λ t. T (below_all (slice_cmp nat_cmp) key
     (cond t ((e.0, e.1.values) ∷ passing test es) (passing test es))))
-    [ true ↦ both _ _ h.0 rest | false ↦ rest ]
+    [ true ↦ both_from-T _ _ h.0 rest | false ↦ rest ]
 
 pub sorted_passing : (test : Feature → Bool) (es : List Entry)
     → T (is_sorted (slice_cmp nat_cmp) es) → T (is_sorted (slice_cmp nat_cmp) (passing test es))
@@ -61,7 +60,7 @@ sorted_passing test (e ∷ es) sorted =
     elim (test e.1) as
     (λ t. T (is_sorted (slice_cmp nat_cmp)
     (cond t ((e.0, e.1.values) ∷ passing test es) (passing test es))))
-    [ true ↦ both _ _ (below_passing test e.0 es h.0) rest | false ↦ rest ]
+    [ true ↦ both_from-T _ _ (below_passing test e.0 es h.0) rest | false ↦ rest ]
 
 pub less_not_key : (a b : List ℕ) → T (is_lt (slice_cmp nat_cmp a b)) → is_key a b ≡ false
 less_not_key a b = by (slice_cmp nat_cmp a b)
@@ -178,12 +177,6 @@ each_found (e ∷ es) sorted =
       ap (λ t. cond t (Some e.1) (find (slice_cmp nat_cmp) e.0 es)) (key_itself e.0),
       found_past e es es h.0 (each_found es h.1),
     )
-
--- ---- the answer
-pub each_as : {A : Type 0} {P Q : A → Type 0} (xs : List A) → ((x : A) → P x → Q x)
-    → AllByRecursion P xs → AllByRecursion Q xs
-each_as [] f each = tt
-each_as (x ∷ xs) f each = (f x each.0, each_as xs f each.1)
 
 pub entries_named : (s : State) (n : ℕ) → AreNamed s n
     → AllByRecursion (λ e. e.1.id ≡ e.0) (map_of.entries (features_of n s))

@@ -2,6 +2,7 @@
 use Rattle.std.proofs.Common.{◌≡◌, ℕ, true, List, [], ◌∷◌, ◌++◌, Option, Some, None, refl, sym, ap}
 use Rattle.std.proofs.Common.{subst, ◌∙◌}
 use Rattle.std.specs.Prelude.{Result, Ok, Err, IfOk}
+use Rattle.gm_base.proofs.Options.{same_some, none_some}
 use Rattle.gm_table.specs.Sorted.{at_key}
 use Rattle.gm_types.specs.declared.index.IndexKind.{IndexKind}
 use Rattle.gm_types.specs.declared.index.IndexKind.TheVariants.{Id}
@@ -35,12 +36,6 @@ Prefixes = (s t : Specification) (one other : IndexKind) (x y : List ℕ) → Is
     → has_index s one ≡ true → has_index t other ≡ true
     → prefix_of s one ++ x ≡ prefix_of t other ++ y
     → (s.number ≡ t.number) × (one ≡ other) × (x ≡ y)
-
-pub same_some : {A : Type 0} (a b : A) → Some a ≡ Some b → a ≡ b
-same_some a b same = cc
-
-pub none_some : {A : Type 0} (a : A) → None ≡ Some a → ⊥
-none_some a same = cc
 
 -- what is told of a result, told otherwise
 pub if_ok : {T E : Type 0} {P Q : T → Type 0} (r : Result T E) → ((x : T) → P x → Q x)

@@ -5,6 +5,8 @@ use Rattle.std.specs.Prelude.{nat_le, nat_lt, slice_get, get_or}
 use Rattle.std.specs.Option.{ForSome}
 use Rattle.std.proofs.lemmas.Option.{slice_get_read, get_or_from_slice_get}
 use Rattle.std.proofs.lemmas.Bool.Decides.{nat_tests}
+use Rattle.gm_base.proofs.Options.{same_some, none_some}
+use Rattle.gm_base.proofs.Booleans.{true_of_not, false_of_not}
 use Rattle.gm_table.specs.declared.row.Row.{Row}
 use Rattle.gm_table.specs.Batch.{applied_at}
 use Rattle.gm_table.specs.Sorted.{Rows, IsRising, at_key}
@@ -17,7 +19,6 @@ use Rattle.gm_engine_rows.specs.Rows.{rows_of}
 use Rattle.gm_engine_rows.specs.Change.{keys_at, rows_with, removes_of, puts_of}
 use Rattle.gm_program.specs.Limits.{IsWithinLimits, has_too_many_rows}
 use Rattle.gm_program.specs.Store.{Types, Holds}
-use Rattle.gm_program.proofs.Bound.{same_some, none_some}
 
 -- the laws of changes
 abbrev pub Follows : Type 0
@@ -146,14 +147,6 @@ type_there s types n t state same there =
     let at : type_at n s ≡ Some t = ap (λ (ts : Types). slice_get ts n) (sym same) ∙ there in
     let number = (state.placed n t at).numbered in
     (ap (λ (k : ℕ). type_at k s) number ∙ at, number)
-
-pub true_from_not : (b : Bool) → not b ≡ false → b ≡ true
-true_from_not true is = refl
-true_from_not false is = cc
-
-pub false_from_not : (b : Bool) → not b ≡ true → b ≡ false
-false_from_not true is = cc
-false_from_not false is = refl
 
 -- what is read of a list of types at a number
 pub read_within : (types seen : Types) (n at : ℕ) (t : Specification) → seen ≡ types → at ≡ n

@@ -16,6 +16,9 @@ use Rattle.std.specs.FinMap.{len-empty, len-entries, find, put, is_sorted, entri
 use Rattle.std.specs.FinMap.{get-entries, get-insert, entries-insert, slice_cmp-IsAntisymmetric}
 use Rattle.std.specs.FinMap.{nat_cmp-IsAntisymmetric}
 use Rattle.std.specs.FinMap.Entries.{below_all, by_order, same_entries}
+use Rattle.gm_base.proofs.Options.{same_some, none_some}
+use Rattle.gm_base.proofs.Lists.{each_as}
+use Rattle.gm_base.proofs.Booleans.{true_or_false, or_true}
 use Rattle.gm_feature.specs.declared.feature.Feature.{Feature}
 use Rattle.gm_feature.specs.declared.value.Value.{Value}
 use Rattle.gm_filter.specs.Tree.{Tree}
@@ -23,7 +26,6 @@ use Rattle.gm_filter.specs.Truth.{is_true}
 use Rattle.gm_engine_rows.specs.State.{State, Features, feature_at}
 use Rattle.gm_program.specs.Collecting.{Collected, collected, values_if, Collects}
 use Rattle.gm_program.specs.Found.{IsAmong, IsTrueOf, Finds}
-use Rattle.gm_program.proofs.Bound.{same_some, none_some}
 
 abbrev pub is_key : List ℕ → List ℕ → Bool
 is_key = eq_by_cmp (slice_cmp nat_cmp)
@@ -33,10 +35,6 @@ same_key a b is = slice_cmp-IsAntisymmetric nat_cmp-IsAntisymmetric a b ((Equal-
 
 pub key_itself : (a : List ℕ) → is_key a a ≡ true
 key_itself a = ap is_eq (tied_itself nat_list_cmp_total a)
-
-pub true_or_false : (b : Bool) → (b ≡ true) ⊎ (b ≡ false)
-true_or_false true = inl refl
-true_or_false false = inr refl
 
 pub both_true : (a b : Bool) → T (a && b) → T a × T b
 both_true true b both = (tt, both)
@@ -121,11 +119,6 @@ not_put id held (f ∷ fs) none =
     (λ apart. at_insert held f.id id f.values false apart)
     (true_or_false (is_key id f.id))
 
-each_as : {A : Type 0} {P Q : A → Type 0} (xs : List A) → ((x : A) → P x → Q x)
-    → AllByRecursion P xs → AllByRecursion Q xs
-each_as [] f each = tt
-each_as (x ∷ xs) f each = (f x each.0, each_as xs f each.1)
-
 -- ---- what a part adds
 any_more : (f : Feature) (tests : List Tree) (test : Tree)
     → list_any (λ t. is_true f t) (tests ++ test ∷ [])
@@ -138,10 +131,6 @@ any_more f (t ∷ tests) test =
       | true ↦ refl
       | false ↦ any_more f tests test
     ]
-
-either_true : (a : Bool) → (a || true) ≡ true
-either_true true = refl
-either_true false = refl
 
 either_false : (a : Bool) → (a || false) ≡ a
 either_false true = refl
@@ -184,7 +173,7 @@ next_at s n tests test fs held are_named finds at id =
           ap (map_of.get (all_in held fs)) (sym named) ∙ here
           ∙ ap (λ b. if b then Some f.values else None)
           (sym (any_more f tests test ∙ ap (λ b. list_any (λ t. is_true f t) tests || b) passes
-          ∙ either_true _)))
+          ∙ or_true _)))
           (λ fails.
           not_put id held fs
           (each_as fs (λ g true_of same. true≢false

@@ -9,6 +9,7 @@ use Rattle.std.proofs.Math.Seq.{take-add}
 use Rattle.std.specs.Prelude.{◌==◌, slice_index}
 use Rattle.std.proofs.lemmas.Grind.{common_steps}
 use Rattle.std.proofs.lemmas.List.{append-nil, take-append-drop, take_min, take_all, length-drop}
+use Rattle.gm_base.proofs.Lists.{rest_whole}
 use Rattle.gm_program.specs.Lines.{complete_from, partial_from, last_line, cut}
 
 pub complete_from-append : (held xs ys : List ℕ)
@@ -205,23 +206,18 @@ partial_from-all start at bytes inside =
     ap (partial_from start) (sym (take-append-drop at bytes))
     ∙ partial_from-rest start (take at bytes) (drop at bytes) inside
 
--- the bytes from a place on, as the code lends them
-pub rest_all : (bytes : List ℕ) (at : ℕ) → take (length bytes - at) (drop at bytes) ≡ drop at bytes
-rest_all bytes at =
-    take_all (length bytes - at) (drop at bytes) (omega (arith, length-drop at bytes))
-
 pub found_from : (bytes : List ℕ) (at n : ℕ)
     → IsFirstByte (is_byte 10) (take (length bytes - at) (drop at bytes)) (Some n)
     → IsFirstByte (is_byte 10) (drop at bytes) (Some n)
 found_from bytes at n found =
-    subst (λ rest. IsFirstByte (is_byte 10) rest (Some n)) (rest_all bytes at) found
+    subst (λ rest. IsFirstByte (is_byte 10) rest (Some n)) (rest_whole bytes at) found
 
 pub none_from : (bytes : List ℕ) (at : ℕ)
     → IsFirstByte (is_byte 10) (take (length bytes - at) (drop at bytes)) None
     → IsInsideLine (drop at bytes)
 none_from bytes at none =
     no_end (drop at bytes)
-    (subst (λ rest. IsFirstByte (is_byte 10) rest None) (rest_all bytes at) none)
+    (subst (λ rest. IsFirstByte (is_byte 10) rest None) (rest_whole bytes at) none)
 
 part_of : (bytes : List ℕ) (at n : ℕ) → take (at + n - at) (drop at bytes) ≡ take n (drop at bytes)
 part_of bytes at n = let e : at + n - at ≡ n = omega arith in ap (λ k. take k (drop at bytes)) e

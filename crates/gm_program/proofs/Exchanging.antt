@@ -11,6 +11,7 @@ use Rattle.std.specs.FinMap as map_of
 use Rattle.std.specs.FinMap.{is_sorted, entries_sorted, get-entries}
 use Rattle.std.specs.FinMap.Entries.{below_all}
 use Rattle.std.proofs.lemmas.List.Elements.{All-from_recursion}
+use Rattle.gm_base.proofs.Lists.{each_as}
 use Rattle.gm_base.specs.Counter.{capped_sum}
 use Rattle.gm_base.specs.declared.code.Code.{Code}
 use Rattle.gm_table.specs.declared.row.Row.{Row}
@@ -42,7 +43,7 @@ use Rattle.gm_program.specs.Serve.{Executes}
 use Rattle.gm_program.specs.Step.{Outcome, planned, asked_of, refused, plain, gone, removed}
 use Rattle.gm_program.specs.Step.{remove_step}
 use Rattle.gm_program.specs.Store.{Types, Holds, IsTypeOf}
-use Rattle.gm_program.proofs.Answering.{answer_is, each_as, each_found, entries_named, passing}
+use Rattle.gm_program.proofs.Answering.{answer_is, each_found, entries_named, passing}
 use Rattle.gm_program.proofs.Answering.{sorted_passing, features_passing, less_not_key, Entry}
 use Rattle.gm_program.proofs.Changing.{Same, Rising, length-types, none_held}
 use Rattle.gm_program.proofs.Collected.{AreNamed, both_true}

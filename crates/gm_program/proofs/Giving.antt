@@ -3,6 +3,8 @@ use Rattle.std.proofs.Common.{◌≡◌, ◌+◌, ℕ, Bool, true, false, not, L
 use Rattle.std.proofs.Common.{length-append, Option, Some, None, refl, sym, ap, subst, ◌∙◌}
 use Rattle.std.specs.Prelude.{All, nat_le, if◌then◌else◌}
 use Rattle.std.proofs.lemmas.List.Elements.{All-from_recursion}
+use Rattle.gm_base.proofs.Lists.{each_as}
+use Rattle.gm_base.proofs.Options.{same_some}
 use Rattle.gm_base.specs.Counter.{capped_sum}
 use Rattle.gm_base.specs.declared.code.Code.TheVariants.{E19}
 use Rattle.gm_table.specs.declared.row.Row.{Row}
@@ -26,8 +28,6 @@ use Rattle.gm_program.specs.Question.{answer, rows_examined}
 use Rattle.gm_program.specs.Serve.{Executes}
 use Rattle.gm_program.specs.Step.{refused, plain, with_value, given, modified, modify_step}
 use Rattle.gm_program.specs.Store.{Types, Holds, IsTypeOf}
-use Rattle.gm_program.proofs.Answering.{each_as}
-use Rattle.gm_program.proofs.Bound.{same_some}
 use Rattle.gm_program.proofs.Changing.{Same, Rising, length-puts, room_is, few_from_room}
 use Rattle.gm_program.proofs.Exchanging.{FollowsAll, CountedAll, KeepsAll, SameTypesAll, IsBoundIn}
 use Rattle.gm_program.proofs.Exchanging.{GivesHeld, answer_bound, exchanges_in, owners_apart}

@@ -9,6 +9,9 @@ use Rattle.std.specs.List.{AllByRecursion}
 use Rattle.std.proofs.lemmas.List.Sums.{length-filter}
 use Rattle.std.specs.FinMap as features
 use Rattle.std.specs.FinMap.{entries_sorted, get-entries}
+use Rattle.gm_base.proofs.Options.{same_some}
+use Rattle.gm_base.proofs.Lists.{each_as, all_append}
+use Rattle.gm_base.proofs.Booleans.{both_of, or_true, false_of_never}
 use Rattle.gm_base.specs.Spans.{Span}
 use Rattle.gm_table.specs.Apart.{times_inside, AreApart}
 use Rattle.gm_table.specs.Sorted.{Rows, RowMap, at_key, is_within, between}
@@ -37,7 +40,7 @@ use Rattle.gm_strategy.specs.Choice.{Chosen, IsServed}
 use Rattle.gm_program.specs.Found.{IsAmong, Finds}
 use Rattle.gm_program.specs.Question.{rows_read}
 use Rattle.gm_program.specs.Store.{IsTypeOf}
-use Rattle.gm_program.proofs.Bound.{Found, Stand, same_some}
+use Rattle.gm_program.proofs.Bound.{Found, Stand}
 use Rattle.gm_program.proofs.Collected.{is_key, same_key}
 use Rattle.gm_program.proofs.Answering.{each_found}
 
@@ -80,13 +83,9 @@ abbrev pub SameBytes : Type 0
 SameBytes = (t : Specification) (f g : Feature) → Fits t f → Fits t g
     → feature_bytes f ≡ feature_bytes g → f ≡ g
 
-both_so : (a b : Bool) → (a && b) ≡ true → (a ≡ true) × (b ≡ true)
-both_so true b h = (refl, h)
-both_so false b h = cc
-
 pub index_applies : (s : Specification) (kind : IndexKind) (t : Tree) → does_apply s kind t ≡ true
     → has_index s kind ≡ true
-index_applies s kind t is = (both_so (has_index s kind) (can_serve s kind t) is).0
+index_applies s kind t is = (both_of (has_index s kind) (can_serve s kind t) is).0
 
 -- ---- whose a row is
 abbrev Row : Type 0
@@ -122,12 +121,6 @@ row_inside found s t of_index kind wanted target key bytes state typed has at in
       bytes_are = record { fits = subst (λ u. Fits u r.feature) same held.fits; same = r.same };
     }
 
--- ---- rows in spans
-each_as : {A : Type 0} {P Q : A → Type 0} (xs : List A) → ((x : A) → P x → Q x)
-    → AllByRecursion P xs → AllByRecursion Q xs
-each_as [] f each = tt
-each_as (x ∷ xs) f each = (f x each.0, each_as xs f each.1)
-
 each_filtered : {A : Type 0} {P Q : A → Type 0} (test : A → Bool) (xs : List A)
     → ((x : A) → P x → test x ≡ true → Q x) → AllByRecursion P xs
     → AllByRecursion Q (filter test xs)
@@ -138,21 +131,12 @@ each_filtered {A = A} {Q = Q} test (x ∷ xs) so each =
     (λ t. test x ≡ t → AllByRecursion Q (cond t (x ∷ filter test xs) (filter test xs)))
     [ true ↦ λ is. (so x each.0 is, rest) | false ↦ λ _. rest ] refl
 
-each_both : {A : Type 0} (P : A → Type 0) (one other : List A) → AllByRecursion P one
-    → AllByRecursion P other → AllByRecursion P (one ++ other)
-each_both P [] other each each' = each'
-each_both P (x ∷ one) other each each' = (each.0, each_both P one other each.1 each')
-
-or_true : (b : Bool) → (b || true) ≡ true
-or_true true = refl
-or_true false = refl
-
 each_in : (P : Row → Type 0) (spans : List Span) (rows : Rows)
     → AllByRecursion (λ row. is_inside row.0 spans ≡ true → P row) rows
     → AllByRecursion P (rows_in spans rows)
 each_in P [] rows each = tt
 each_in P (span ∷ spans) rows each =
-    each_both P (between span.0 span.1 rows) (rows_in spans rows)
+    all_append P (between span.0 span.1 rows) (rows_in spans rows)
     (each_filtered (λ row. is_within span.0 span.1 row.0) rows
     (λ row so within. so (ap (λ b. b || is_inside row.0 spans) within)) each)
     (each_in P spans rows
@@ -356,10 +340,6 @@ times_inside-inside key (span ∷ spans) inside =
 apart_rest : (span : Span) (spans : List Span) → AreApart (span ∷ spans) → AreApart spans
 apart_rest span spans apart = λ key. omega (arith, apart key)
 
-false_or : (b : Bool) → (b ≡ true → ⊥) → b ≡ false
-false_or true never = absurd (never refl)
-false_or false never = refl
-
 length_in : (spans : List Span) (rows : Rows) → AreApart spans
     → length (rows_in spans rows) ≡ count_by (λ row. is_inside row.0 spans) rows
 length_in [] rows apart = count_none rows
@@ -368,7 +348,7 @@ length_in (span ∷ spans) rows apart =
     let in_later = λ (row : Row). is_inside row.0 spans in
     length-append (filter in_first rows) (rows_in spans rows)
     ∙ (λ i. length-filter in_first rows i + length_in spans rows (apart_rest span spans apart) i)
-    ∙ sym (count_either in_first in_later (λ row within. false_or (in_later row) (λ later.
+    ∙ sym (count_either in_first in_later (λ row within. false_of_never (in_later row) (λ later.
     let few : 1 + times_inside row.0 spans ≤ 1 =
     subst (λ (b : Bool). cond b 1 0 + times_inside row.0 spans ≤ 1) within (apart row.0) in
     omega (arith, few, times_inside-inside row.0 spans later))) rows)

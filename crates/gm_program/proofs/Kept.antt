@@ -10,6 +10,8 @@ use Rattle.std.specs.declared.cmp.Ordering.TheVariants.{Less, Equal, Greater}
 use Rattle.std.specs.BTreeMap.{insert_entry}
 use Rattle.std.specs.FinMap.{slice_cmp-IsAntisymmetric, nat_cmp-IsAntisymmetric}
 use Rattle.std.proofs.lemmas.List.Elements.{All-from_recursion}
+use Rattle.gm_base.proofs.Lists.{each_as}
+use Rattle.gm_base.proofs.Lists.{all_append}
 use Rattle.gm_feature.specs.declared.feature.Feature.{Feature}
 use Rattle.gm_feature.specs.declared.value.Value.{Value}
 use Rattle.gm_feature.specs.Spelling.{feature_bytes}
@@ -23,7 +25,7 @@ use Rattle.gm_program.specs.Collecting.{Collected, collected, feature_of, Counts
 use Rattle.gm_program.specs.InOrder.{AreBound, in_order, put_all}
 use Rattle.gm_program.specs.Kept.{Adds, AreKept}
 use Rattle.gm_program.specs.Question.{answer}
-use Rattle.gm_program.proofs.Answering.{answer_is, each_as, length-map}
+use Rattle.gm_program.proofs.Answering.{answer_is, length-map}
 use Rattle.gm_program.proofs.Collected.{AreNamed, collects_none, collects_more}
 use Rattle.gm_program.proofs.Planned.{map-append}
 
@@ -33,11 +35,6 @@ collected-append : (es : Collected) (fs gs : List Feature)
 collected-append es [] gs = refl
 collected-append es (f ∷ fs) gs =
     collected-append (insert_entry (slice_cmp nat_cmp) es f.id f.values) fs gs
-
-each_both : {A : Type 0} (P : A → Type 0) (one other : List A) → AllByRecursion P one
-    → AllByRecursion P other → AllByRecursion P (one ++ other)
-each_both P [] other each each' = each'
-each_both P (x ∷ one) other each each' = (each.0, each_both P one other each.1 each')
 
 pub kept_none : (s : State) (n : ℕ) (keeping : Keeping) (rows : List FoundRow) → rows ≡ []
     → AreKept s n [] keeping rows
@@ -51,7 +48,7 @@ kept_more s n tests test keeping before after are_named adds kept = record {
   features = kept.features ++ adds.features;
   are = adds.are ∙ ap (λ rows. rows ++ map (kept_of keeping) adds.features) kept.are
       ∙ sym (map-append (kept_of keeping) kept.features adds.features);
-  bound = each_both (λ f. feature_at n f.id s ≡ Some f) kept.features adds.features kept.bound
+  bound = all_append (λ f. feature_at n f.id s ≡ Some f) kept.features adds.features kept.bound
       (each_as adds.features (λ f true_of. true_of.held) adds.finds.sound);
   collects = collects_more s n tests test adds.features (collected [] kept.features)
       (collected [] (kept.features ++ adds.features)) are_named adds.finds kept.collects

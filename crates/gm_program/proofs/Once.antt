@@ -8,6 +8,7 @@ use Rattle.std.specs.Ordering.{nat_cmp}
 use Rattle.std.specs.Cmp.Lexicographic.{slice_cmp, nat_list_cmp_total}
 use Rattle.std.specs.FinMap.{find, put, is_sorted, entries_sorted}
 use Rattle.std.specs.FinMap.Entries.{below_all, find-put, is_sorted-put, length-put}
+use Rattle.gm_base.proofs.Booleans.{true_or_false}
 use Rattle.gm_base.specs.Spans.{Span}
 use Rattle.gm_table.specs.Apart.{times_inside, AreApart}
 use Rattle.gm_table.specs.Sorted.{Rows, is_within, between}
@@ -23,7 +24,7 @@ use Rattle.gm_engine_rows.specs.State.{State, feature_at}
 use Rattle.gm_engine_rows.specs.Rows.{row_map, rows_of}
 use Rattle.gm_program.specs.Collecting.{Collected, collected}
 use Rattle.gm_program.proofs.Answering.{less_not_key}
-use Rattle.gm_program.proofs.Collected.{is_key, same_key, key_itself, true_or_false, both_true}
+use Rattle.gm_program.proofs.Collected.{is_key, same_key, key_itself, both_true}
 use Rattle.gm_program.proofs.Collected.{insert_put}
 use Rattle.gm_program.proofs.Inside.{SameBytes, IsRowOfType}
 

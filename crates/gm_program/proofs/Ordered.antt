@@ -20,9 +20,11 @@ use Rattle.std.proofs.lemmas.List.Sorted.{All-permutation, IsPermutation-map}
 use Rattle.std.proofs.lemmas.List.Sorted.{list_any-IsPermutation}
 use Rattle.std.proofs.lemmas.Map.Keys.{sorted_head, sorted_tail}
 use Rattle.std.proofs.lemmas.Map.Text.{is_eq-slice_cmp}
+use Rattle.gm_base.proofs.Booleans.{true_or_false}
+use Rattle.gm_base.proofs.Booleans.{both_from-T}
 use Rattle.gm_scan.specs.FoundRows.{FoundRow}
 use Rattle.gm_program.specs.InOrder.{put_all, in_order, seen, AreBound}
-use Rattle.gm_program.proofs.Collected.{is_key, same_key, true_or_false, insert_put}
+use Rattle.gm_program.proofs.Collected.{is_key, same_key, insert_put}
 
 abbrev Lent : Type 0
 Lent = Bor (List ℕ) × Bor (List ℕ)
@@ -48,10 +50,6 @@ ties x y = both_tied _ _ (C x.0.now y.0.now) (C x.1.now y.1.now)
 -- the bytes are those of the identifier
 abbrev Follows : (List ℕ → List ℕ) → FoundRow → Type 0
 Follows of row = row.1 ≡ of row.0
-
-both_from : (a b : Bool) → T a → T b → T (a && b)
-both_from true b one other = other
-both_from false b one other = absurd one
 
 first_of : (a b : Bool) → (a && b) ≡ true → a ≡ true
 first_of true b both = refl
@@ -85,13 +83,13 @@ below : (of : List ℕ → List ℕ) (x : Lent) (rows : List Lent) → Follows o
     → T (below_all C x.0.now (map seen rows))
 below of x [] here follow less = tt
 below of x (y ∷ rows) here follow less =
-    both_from _ _ (less_first of x y here follow.0 less.0) (below of x rows here follow.1 less.1)
+    both_from-T _ _ (less_first of x y here follow.0 less.0) (below of x rows here follow.1 less.1)
 
 rise : (of : List ℕ → List ℕ) (rows : List Lent) → AllByRecursion (Follows of) (map seen rows)
     → IsStrictlySortedBy by_both rows → T (is_sorted C (map seen rows))
 rise of [] follow sorted = tt
 rise of (x ∷ rows) follow sorted =
-    both_from _ _ (below of x rows follow.0 follow.1 (sorted_head by_both x rows sorted))
+    both_from-T _ _ (below of x rows follow.0 follow.1 (sorted_head by_both x rows sorted))
     (rise of rows follow.1 (sorted_tail by_both x rows sorted))
 
 -- ---- what is found at an identifier

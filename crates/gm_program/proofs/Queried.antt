@@ -3,6 +3,7 @@ use Rattle.std.proofs.Common.{◌≡◌, ◌^◌, ℕ, List, map, length, Some, 
 use Rattle.std.specs.Prelude.{All}
 use Rattle.std.specs.List.{flat_map}
 use Rattle.std.proofs.lemmas.List.Elements.{All-from_recursion}
+use Rattle.gm_base.proofs.Lists.{each_as}
 use Rattle.gm_base.specs.Counter.{capped_sum}
 use Rattle.gm_table.specs.Sorted.{Rows}
 use Rattle.gm_types.specs.Specification.{Specification}
@@ -27,7 +28,7 @@ use Rattle.gm_program.specs.Question.{answer, rows_examined}
 use Rattle.gm_program.specs.Serve.{Executes}
 use Rattle.gm_program.specs.Step.{found, counted, query_step, count_step}
 use Rattle.gm_program.specs.Store.{Types, Holds}
-use Rattle.gm_program.proofs.Answering.{each_as, answer_length}
+use Rattle.gm_program.proofs.Answering.{answer_length}
 use Rattle.gm_program.proofs.Exchanging.{answer_bound}
 use Rattle.gm_program.proofs.Kept.{kept_in_order}
 use Rattle.gm_program.proofs.Planned.{step_answered, are_named}

@@ -4,6 +4,8 @@ use Rattle.std.proofs.Common.{Option, Some, None, refl, sym, ap, subst, ◌∙�
 use Rattle.std.specs.Prelude.{nat_le, slice_get, get_or}
 use Rattle.std.specs.List.{list_any}
 use Rattle.std.proofs.lemmas.Bool.Decides.{nat_tests}
+use Rattle.gm_base.proofs.Options.{same_some}
+use Rattle.gm_base.proofs.Booleans.{both_of}
 use Rattle.gm_base.specs.Counter.{capped_sum}
 use Rattle.gm_base.specs.declared.code.Code.{Code}
 use Rattle.gm_table.specs.Sorted.{Rows}
@@ -30,7 +32,6 @@ use Rattle.gm_program.specs.Step.{Outcome, asked_of, is_target, found, counted, 
 use Rattle.gm_program.specs.Step.{query_step, count_step, explain_step}
 use Rattle.gm_program.specs.Store.{Types, Holds, HasState, HasType}
 use Rattle.gm_program.proofs.Answering.{answer_is, answer_length}
-use Rattle.gm_program.proofs.Bound.{same_some}
 use Rattle.gm_program.proofs.Changing.{type_there, read_known}
 use Rattle.gm_program.proofs.Planned.{step_refused, step_answered, executes_refused, type_of}
 use Rattle.gm_program.proofs.Planned.{are_named, any_test}
@@ -58,10 +59,6 @@ pub has_type : (types : Types) (rows : Rows) (a : Asked) (q : IsQuestion types a
     → HasState types rows → HasType q.of rows
 has_type types rows a q (s, holds) =
     (s, type_of s q.of types rows holds (type_known s types rows a q holds).0)
-
-both_so : (a b : Bool) → (a && b) ≡ true → (a ≡ true) × (b ≡ true)
-both_so true b h = (refl, h)
-both_so false b h = cc
 
 -- ---- a refusal
 pub refused_reply : (s : State) (a : Asked) (t : Specification)

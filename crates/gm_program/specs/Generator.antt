@@ -2,6 +2,8 @@
 use Rattle.std.specs.Prelude.{ℕ, zero, suc, ◌+◌, ◌*◌, ◌/◌, ◌%◌, ◌^◌, ℤ, pos, ◌-ℤ◌, List, [], ◌∷◌}
 use Rattle.std.specs.Prelude.{◌++◌, codes}
 use Rattle.std.specs.Fmt.{decimal}
+use Rattle.gm_geom.specs.Validity.{longitude_limit, latitude_limit}
+use Rattle.gm_base.specs.Ascii.{line_feed}
 use Rattle.gm_calendar.specs.Spelling.{instant_text}
 use Rattle.gm_geom.specs.Number.{fixed_text}
 
@@ -23,7 +25,7 @@ behind (suc n) state = behind n (next state)
 -- ---- lines
 
 abbrev pub line : List ℕ → List ℕ
-line text = text ++ 10 ∷ []
+line text = text ++ line_feed ∷ []
 
 -- in milliseconds since 1970
 abbrev pub second_of_2020 : ℕ → ℤ
@@ -36,8 +38,8 @@ centred half coordinate = pos coordinate -ℤ pos half
 abbrev pub place_text : ℕ → ℕ → List ℕ
 place_text x y =
     codes ",POINT ("
-    ++ (fixed_text (centred 1800000000 x)
-    ++ (codes " " ++ (fixed_text (centred 900000000 y) ++ line (codes ")"))))
+    ++ (fixed_text (centred longitude_limit x)
+    ++ (codes " " ++ (fixed_text (centred latitude_limit y) ++ line (codes ")"))))
 
 -- the feature with this number: a name, a number, a second of 2020 and a place, drawn in this order
 unfoldable pub put_line : ℕ → ℕ → List ℕ

@@ -1,17 +1,19 @@
 -- A script as lines. Each ends with a 0x0A, or at the end of the script.
 use Rattle.std.specs.Prelude.{ℕ, List, [], ◌∷◌, ◌++◌, take, if◌then◌else◌, ◌==◌}
+use Rattle.gm_base.specs.Ascii.{line_feed}
 
 -- the lines that end in these bytes, where so much of the first was before them
 abbrev pub complete_from : List ℕ → List ℕ → List (List ℕ)
 complete_from held [] = []
 complete_from held (byte ∷ bytes) =
-    if byte == 10 then held ∷ complete_from [] bytes else complete_from (held ++ byte ∷ []) bytes
+    if byte == line_feed then held ∷ complete_from [] bytes
+    else complete_from (held ++ byte ∷ []) bytes
 
 -- what comes after the last of them
 abbrev pub partial_from : List ℕ → List ℕ → List ℕ
 partial_from held [] = held
 partial_from held (byte ∷ bytes) =
-    if byte == 10 then partial_from [] bytes else partial_from (held ++ byte ∷ []) bytes
+    if byte == line_feed then partial_from [] bytes else partial_from (held ++ byte ∷ []) bytes
 
 -- the line at the end of a script, if it is not empty
 abbrev pub last_line : List ℕ → List (List ℕ)

@@ -2,6 +2,7 @@
 use Rattle.std.specs.Prelude.{◌≡◌, ◌<◌, ◌^◌, ℕ, false, List, [], ◌++◌, length, Option, Some, None}
 use Rattle.std.specs.Prelude.{IsSome, option_map, ⊤}
 use Rattle.std.specs.Option.{ForSome}
+use Rattle.gm_program.specs.Limits.{script_limit}
 use Rattle.gm_base.specs.Counter.{capped_sum}
 use Rattle.gm_outside.specs.Failed.{Rose}
 use Rattle.gm_table.specs.Sorted.{Rows}
@@ -71,7 +72,7 @@ whole_output (Some made) setting s left = Some (made_output setting s made)
 -- read
 abbrev pub CanBeRead : Option Made → Option (List ℕ) → ℕ → ℕ → Type 0
 CanBeRead None left faults_before faults_after =
-    ((script : List ℕ) × (left ≡ Some script) × (length script < 2 ^ 40))
+    ((script : List ℕ) × (left ≡ Some script) × (length script < script_limit))
     × (Rose faults_before faults_after → ⊥)
 CanBeRead (Some made) left faults_before faults_after = ⊤
 

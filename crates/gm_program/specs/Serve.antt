@@ -2,6 +2,7 @@
 use Rattle.std.specs.Prelude.{◌≡◌, ◌≢◌, ◌≤◌, ◌<◌, ◌+◌, ◌^◌, ℕ, List, [], ◌++◌, Option, Some, length}
 use Rattle.std.specs.Prelude.{Result, IsErrOf}
 use Rattle.std.specs.Option.{ForSome}
+use Rattle.gm_program.specs.Limits.{script_limit}
 use Rattle.gm_base.specs.Counter.{capped_sum}
 use Rattle.gm_outside.specs.Failed.{Rose}
 use Rattle.gm_table.specs.Sorted.{Rows}
@@ -132,8 +133,8 @@ pub record Stopped (setting : Setting) (s : State) (error : Stop) (script : List
   pub rest : List ℕ
   pub parts : script ≡ taken ++ rest
   pub leaves : left ≡ Some rest
-  pub at_limit : error ≡ TooLong → length taken ≡ 2 ^ 40
-  pub below_limit : error ≢ TooLong → length taken < 2 ^ 40
+  pub at_limit : error ≡ TooLong → length taken ≡ script_limit
+  pub below_limit : error ≢ TooLong → length taken < script_limit
   pub part : WritesPart (output setting s script) written_before written
   pub whole : error ≡ ReadFault
       → Writes (replies setting (machine_at s) (complete_from [] taken)) written_before written

@@ -2,6 +2,7 @@
 use Rattle.std.specs.Prelude.{ℕ, Bool, ◌&&◌, nat_le, if◌then◌else◌, List, [], map, length}
 use Rattle.std.specs.Prelude.{slice_set, Option, Some, None, is_some}
 use Rattle.std.specs.List.{flat_map}
+use Rattle.gm_script.specs.Ask.{standard_target}
 use Rattle.gm_base.specs.declared.code.Code.{Code}
 use Rattle.gm_base.specs.declared.code.Code.TheVariants.{E06, E13, E18, E19}
 use Rattle.gm_types.specs.Specification.{Specification}
@@ -75,9 +76,12 @@ description (Some t) = description_of t
 abbrev pub describe_step : ℕ → State → Outcome
 describe_step n s = answered s (reply.Described (description (type_at n s))) 0
 
+abbrev pub most_target : ℕ
+most_target = 10000
+
 -- a target is from 1 to 10,000
 abbrev pub is_target : ℕ → Bool
-is_target target = nat_le 1 target && nat_le target 10000
+is_target target = nat_le 1 target && nat_le target most_target
 
 -- what the parts of a plan answer, where there is a plan and the target is one
 abbrev pub planned : State → ℕ → Option (List Chosen) → (List Chosen → Outcome) → Outcome
@@ -119,7 +123,7 @@ explain_step a s = asked_of (type_at a.number s) a s (explained a s)
 
 -- a question without words
 abbrev pub plain : ℕ → Tree → Asked
-plain n wanted = asked n None 2000 wanted
+plain n wanted = asked n None standard_target wanted
 
 -- a feature that goes
 abbrev pub gone : Feature → Exchange

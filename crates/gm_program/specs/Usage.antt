@@ -9,6 +9,7 @@ use Rattle.clap.specs.Words.{App, Rule, Text, fault_of, first_of, matches_of, ne
 use Rattle.clap.specs.Words.{with_rule}
 use Rattle.clap.specs.Walk.{is_empty}
 use Rattle.clap.specs.Simple.{on_top}
+use Rattle.gm_base.specs.Ascii.{colon, digit_zero}
 use Rattle.gm_program.specs.declared.options.Made.{Made}
 use Rattle.gm_program.specs.declared.options.Options.{Options}
 use Rattle.gm_program.specs.declared.options.WordsFault.{WordsFault}
@@ -39,11 +40,11 @@ value_of name words = first_of name (matches_of gm_command words)
 
 -- ---- the values
 
--- a 0 (48) before further bytes
+-- a 0 before further bytes
 abbrev pub is_padded_text : Text → Bool
 is_padded_text [] = false
 is_padded_text (a ∷ []) = false
-is_padded_text (a ∷ b ∷ bytes) = a == 48
+is_padded_text (a ∷ b ∷ bytes) = a == digit_zero
 
 -- one digit or more, of which the first of several is not 0
 abbrev pub is_plain_number : Text → Bool
@@ -61,10 +62,14 @@ both (Some a) (Some b) = Some (record { seed = a; count = b })
 both (Some a) None = None
 both None b = None
 
--- a u64 before the first colon (58), and 1 to 100,000 behind it
+-- the most features of a made script
+abbrev pub most_features : ℕ
+most_features = 100000
+
+-- a u64 before the first colon, and 1 to 100,000 behind it
 abbrev pub pair_value : Text → Option Made
-pair_value bytes = both (number_between 0 (2 ^ 64 - 1) (before_first (λ b. b == 58) bytes))
-    (number_between 1 100000 (after_first (λ b. b == 58) bytes))
+pair_value bytes = both (number_between 0 (2 ^ 64 - 1) (before_first (λ b. b == colon) bytes))
+    (number_between 1 most_features (after_first (λ b. b == colon) bytes))
 
 -- None where the value is no good
 abbrev pub given : Option Made → Option (Option Made)

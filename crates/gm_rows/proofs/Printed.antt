@@ -8,6 +8,7 @@ use Rattle.std.proofs.lemmas.Bool.{cases_Bool, eqb-true}
 use Rattle.csv.specs.Machine.{next_record}
 use Rattle.csv.specs.Reading.{default_config, is_bom, strip_bom}
 use Rattle.csv.specs.declared.parser.State.TheVariants as state
+use Rattle.gm_base.proofs.Booleans.{and_false}
 use Rattle.gm_rows.specs.Printer.{is_marked, begins_with_mark, is_quoted, doubled, printed}
 use Rattle.gm_rows.specs.Printer.{further, record_text, has_line_feed, HaveNoLineFeed}
 use Rattle.gm_rows.specs.Reader.{first_record, record_of}
@@ -221,10 +222,6 @@ and-false : (a b : Bool) → (a && false && b) ≡ false
 and-false true b = refl
 and-false false b = refl
 
-and-last : (a : Bool) → (a && false) ≡ false
-and-last true = refl
-and-last false = refl
-
 strip-one : (a : ℕ) (tail : List ℕ) → strip_bom (a ∷ 44 ∷ tail) ≡ a ∷ 44 ∷ tail
 strip-one a [] = (short-strip a 44).1
 strip-one a (c ∷ rest) = not-bom a 44 c rest (and-false (a == 0xEF) (c == 0xBF))
@@ -237,7 +234,7 @@ strip-plain (a ∷ []) [] some n = (short-strip a a).0
 strip-plain (a ∷ []) (y ∷ ys) some n = strip-one a (printed y ++ further ys)
 strip-plain (a ∷ b ∷ []) [] some n = (short-strip a b).1
 strip-plain (a ∷ b ∷ []) (y ∷ ys) some n =
-    not-bom a b 44 (printed y ++ further ys) (and-last ((a == 0xEF) && (b == 0xBB)))
+    not-bom a b 44 (printed y ++ further ys) (and_false ((a == 0xEF) && (b == 0xBB)))
 strip-plain (a ∷ b ∷ c ∷ x) rest some n = not-bom a b c (x ++ further rest) n
 
 -- a row's text starts as a field's does, where its first field is not empty

@@ -4,6 +4,7 @@ use Rattle.std.specs.Prelude.{[], ◌∷◌, ◌++◌, map}
 use Rattle.std.specs.Fmt.{signed_decimal}
 use Rattle.std.specs.List.{list_any}
 use Rattle.csv.specs.Reading.{is_bom}
+use Rattle.gm_base.specs.Ascii.{carriage_return, comma, double_quote, line_feed}
 use Rattle.gm_calendar.specs.Spelling.{instant_text}
 use Rattle.gm_feature.specs.declared.feature.Feature.{Feature}
 use Rattle.gm_feature.specs.declared.value.Value.{Value}
@@ -12,7 +13,7 @@ use Rattle.gm_wkt.specs.Printer as wkt
 
 -- a comma, a double quote or 0x0D
 abbrev pub is_marked : ℕ → Bool
-is_marked byte = (byte == 44) || (byte == 34) || (byte == 13)
+is_marked byte = (byte == comma) || (byte == double_quote) || (byte == carriage_return)
 
 -- the bytes of U+FEFF stand first
 abbrev pub begins_with_mark : List ℕ → Bool
@@ -30,15 +31,17 @@ is_quoted field = has_marked field || begins_with_mark field
 -- each double quote twice
 unfoldable pub doubled : List ℕ → List ℕ
 doubled [] = []
-doubled (byte ∷ rest) = if byte == 34 then byte ∷ byte ∷ doubled rest else byte ∷ doubled rest
+doubled (byte ∷ rest) =
+    if byte == double_quote then byte ∷ byte ∷ doubled rest else byte ∷ doubled rest
 
 abbrev pub printed : List ℕ → List ℕ
-printed field = if is_quoted field then 34 ∷ (doubled field ++ (34 ∷ [])) else field
+printed field =
+    if is_quoted field then double_quote ∷ (doubled field ++ (double_quote ∷ [])) else field
 
 -- further fields, a comma before each
 unfoldable pub further : List (List ℕ) → List ℕ
 further [] = []
-further (field ∷ fields) = 44 ∷ (printed field ++ further fields)
+further (field ∷ fields) = comma ∷ (printed field ++ further fields)
 
 -- the text of a record of a first field and further ones
 abbrev pub record_text : List ℕ → List (List ℕ) → List ℕ
@@ -63,7 +66,7 @@ row_text feature = record_text feature.id (map field_of feature.values)
 
 -- a byte is 0x0A
 abbrev pub has_line_feed : List ℕ → Bool
-has_line_feed = list_any (λ byte. byte == 10)
+has_line_feed = list_any (λ byte. byte == line_feed)
 
 abbrev pub HaveNoLineFeed : List (List ℕ) → Type 0
 HaveNoLineFeed [] = ⊤

@@ -10,6 +10,7 @@ use Rattle.std.specs.Str.Parse.{without_leading_sign, signed_digits_value}
 use Rattle.csv.specs.Machine.{Read, next_record}
 use Rattle.csv.specs.Reading.{default_config, strip_bom}
 use Rattle.csv.specs.declared.parser.State.TheVariants as state
+use Rattle.gm_base.specs.Ascii.{carriage_return, comma, double_quote, line_feed}
 use Rattle.gm_base.specs.Identifier.{is_identifier}
 use Rattle.gm_calendar.specs.Spelling.{instant_of}
 use Rattle.gm_feature.specs.declared.feature.Feature.{Feature}
@@ -49,7 +50,8 @@ record_of row = if_alone (first_record row)
 
 -- bytes that `csv` takes as they stand, but for commas: no double quote, 0x0D or 0x0A
 abbrev pub is_plain_byte : ℕ → Bool
-is_plain_byte byte = not (byte == 34) && (not (byte == 13) && not (byte == 10))
+is_plain_byte byte =
+    not (byte == double_quote) && (not (byte == carriage_return) && not (byte == line_feed))
 
 -- a row that is not empty, of such bytes, with no U+FEFF at its head
 abbrev pub is_plain : List ℕ → Bool
@@ -59,7 +61,7 @@ is_plain row = nat_le 1 (length row) && (not (begins_with_mark row) && list_all 
 unfoldable pub cut_from : List (List ℕ) → List ℕ → List ℕ → List (List ℕ)
 cut_from fields field [] = fields ++ field ∷ []
 cut_from fields field (byte ∷ bytes) =
-    if byte == 44
+    if byte == comma
     then cut_from (fields ++ field ∷ []) [] bytes
     else cut_from fields (field ++ byte ∷ []) bytes
 

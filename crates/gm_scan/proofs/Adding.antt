@@ -7,6 +7,7 @@ use Rattle.std.specs.Ordering.{nat_cmp, is_eq, ordering_reverse}
 use Rattle.std.specs.Str.{bytes_eq}
 use Rattle.std.specs.declared.cmp.Ordering.{Ordering}
 use Rattle.std.specs.declared.cmp.Ordering.TheVariants.{Less, Equal, Greater}
+use Rattle.gm_base.proofs.Booleans.{or_false}
 use Rattle.gm_feature.specs.declared.value.Value.{Value}
 use Rattle.gm_feature.specs.declared.value.Value.TheVariants as value
 use Rattle.gm_filter.specs.declared.filter.Literal.{Literal}
@@ -37,10 +38,6 @@ text_added text other before after e =
     let turned = ap is_eq (nat_list_cmp_total.antisymm text other)
     ∙ reversed (slice_cmp nat_cmp other text) ∙ is_eq-slice_cmp other text in
     e ∙ or_else _ before ∙ ap (λ b. before || b) turned
-
-or_false : (b : Bool) → b ≡ (b || false)
-or_false true = refl
-or_false false = refl
 
 -- those with other texts
 abbrev pub with_texts : SortedLiterals → Texts → SortedLiterals

@@ -2,6 +2,7 @@
 use Rattle.std.proofs.Common.{◌≡◌, ℕ, Bool, true, false, not, ◌||◌, List, [], refl, ◌∙◌, ap, inl}
 use Rattle.std.proofs.Common.{inr, None, Result, option_map, option_and_then}
 use Rattle.std.specs.Prelude.{◌⊎◌, if◌then◌else◌, slice_get}
+use Rattle.gm_base.proofs.Booleans.{or_true}
 use Rattle.gm_base.specs.declared.code.Code.TheVariants.{E04, E06}
 use Rattle.gm_types.specs.Specification.{Specification}
 use Rattle.gm_types.specs.TypeList.{number_of_name}
@@ -10,10 +11,6 @@ use Rattle.gm_script.specs.declared.fault.LineFault.{LineFault}
 use Rattle.gm_script.specs.Laid.{IsTypeNamed}
 use Rattle.gm_script.specs.Reading.{refused, type_named, on_type, with_rest}
 use Rattle.gm_script.specs.Words.{is_nothing}
-
-pub or_true : (b : Bool) → (b || true) ≡ true
-or_true true = refl
-or_true false = refl
 
 -- no name, or nothing behind it
 pub lacking : {R : Type 0} (name rest : List ℕ) (other whole : R)

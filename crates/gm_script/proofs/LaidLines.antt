@@ -8,6 +8,7 @@ use Rattle.std.specs.Str.{is_utf8}
 use Rattle.std.proofs.Math.Seq.{take-append_seam, drop-append_seam}
 use Rattle.std.proofs.lemmas.Bool.{and_parts, le-ltb}
 use Rattle.std.proofs.lemmas.List.{length-append}
+use Rattle.gm_base.proofs.Booleans.{false_of_not}
 use Rattle.gm_base.specs.declared.code.Code.TheVariants.{E01, E02}
 use Rattle.gm_types.specs.Specification.{Specification}
 use Rattle.gm_script.specs.Laid.{IsLaid, IsOnLine, IsLineOf}
@@ -16,10 +17,6 @@ use Rattle.gm_script.specs.Order as order
 use Rattle.gm_script.specs.Reading.{refused, reading, reading_of, command_in, command_of}
 use Rattle.gm_script.specs.Words.{is_blank, is_no_blank, past_blanks, word_of, behind_word}
 use Rattle.gm_script.specs.Words.{AreBlanks, are_no_blanks, is_word, begins_without_blank}
-
-pub not_true : (b : Bool) → not b ≡ true → b ≡ false
-not_true true e = absurd (cc)
-not_true false e = refl
 
 -- those at the front that pass, and then those behind them
 pub front_len : (p : ℕ → Bool) (xs ys : List ℕ) → list_all p xs ≡ true
@@ -46,7 +43,7 @@ dropped_front p xs ys all stop =
 no_blank_first : (rest : List ℕ) → begins_without_blank rest ≡ true → prefix_len is_blank rest ≡ 0
 no_blank_first [] e = refl
 no_blank_first (b ∷ bs) e =
-    ap (λ t. cond t (1 + prefix_len is_blank bs) 0) (not_true (is_blank b) e)
+    ap (λ t. cond t (1 + prefix_len is_blank bs) 0) (false_of_not (is_blank b) e)
 
 -- a word stops where nothing follows, or blanks
 pub word_stops : (blanks rest : List ℕ) → AreBlanks blanks → ((rest ≡ []) ⊎ (0 < length blanks))

@@ -36,9 +36,18 @@ target_in text = option_in (codes "target=") (past_hint text)
 abbrev pub past_words : List ℕ → List ℕ
 past_words text = past_option (codes "target=") (past_hint text)
 
+-- the most digits of a target
+abbrev pub target_digits : ℕ
+target_digits = 10
+
+-- the target where none is given
+abbrev pub standard_target : ℕ
+standard_target = 2000
+
 abbrev pub is_target : List ℕ → Bool
 is_target digits =
-    (nat_le 1 (length digits) && nat_le (length digits) 10) && list_all is_ascii_digit digits
+    (nat_le 1 (length digits) && nat_le (length digits) target_digits)
+    && list_all is_ascii_digit digits
 
 -- one to ten digits
 abbrev pub target_number : List ℕ → Option ℕ
@@ -46,7 +55,7 @@ target_number digits = if is_target digits then Some (digits_value 10 digits) el
 
 -- the number of a target, and 2,000 where none is given
 abbrev pub target_of : Option (List ℕ) → Option ℕ
-target_of None = Some 2000
+target_of None = Some standard_target
 target_of (Some digits) = target_number digits
 
 -- the enabled index that is hinted at, if a hint is given; None where it has another name

@@ -3,6 +3,8 @@ use Rattle.std.specs.Prelude.{◌≡◌, ◌⊎◌, ℕ, ◌<◌, ◌≤◌, nat
 use Rattle.std.specs.Prelude.{length, codes, slice_get, Option, Some, None}
 use Rattle.std.specs.List.{ends_with}
 use Rattle.std.specs.Str.{is_utf8}
+use Rattle.gm_script.specs.Line.{line_limit}
+use Rattle.gm_base.specs.Ascii.{carriage_return}
 use Rattle.gm_types.specs.Specification.{Specification}
 use Rattle.gm_types.specs.TypeList.{number_of_name}
 use Rattle.gm_types.specs.Words.{is_name}
@@ -32,8 +34,9 @@ pub record IsLaid (word name rest text : List ℕ) : Type 0 where
 
 -- the text without an end, or with a 0x0D, on a line that is not too long
 pub record IsOnLine (text line : List ℕ) : Type 0 where
-  pub ended : ((line ≡ text) × (ends_with nat_eq text (13 ∷ []) ≡ false)) ⊎ (line ≡ text ++ 13 ∷ [])
-  pub short : length line ≤ 1048576
+  pub ended : ((line ≡ text) × (ends_with nat_eq text (carriage_return ∷ []) ≡ false))
+      ⊎ (line ≡ text ++ carriage_return ∷ [])
+  pub short : length line ≤ line_limit
 
 -- a line of a command: its word, the name, and what stands behind it
 pub record IsLineOf (word name rest line : List ℕ) : Type 0 where

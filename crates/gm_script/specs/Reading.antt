@@ -3,6 +3,8 @@ use Rattle.std.specs.Prelude.{◌≡◌, ℕ, ◌||◌, ◌&&◌, nat_lt, not, i
 use Rattle.std.specs.Prelude.{slice_get, Option, Some, None, is_some, option_map, option_and_then}
 use Rattle.std.specs.Prelude.{Result, Ok, Err}
 use Rattle.std.specs.Str.{is_utf8}
+use Rattle.gm_script.specs.Suits.{most_types}
+use Rattle.gm_script.specs.Line.{line_limit}
 use Rattle.gm_base.specs.declared.code.Code.{Code}
 use Rattle.gm_base.specs.declared.code.Code.TheVariants.{E01, E02, E03, E04, E05, E06, E07, E11}
 use Rattle.gm_base.specs.declared.code.Code.TheVariants.{E12, E17, E19}
@@ -60,7 +62,7 @@ with_rest types name rest on =
 -- a further type, where there is room for one among 100
 abbrev pub create_type : List Specification → Specification → Given
 create_type types t =
-    if nat_lt (length types) 100 && nat_lt (length t.attributes) 65
+    if nat_lt (length types) most_types && nat_lt (length t.attributes) 65
     then Ok (order.create t)
     else refused E19
 
@@ -187,7 +189,7 @@ reading_of types text =
 -- a line without its 0x0A: over 1,048,576 bytes are too long, and one 0x0D at its end is dropped
 unfoldable pub reading : List Specification → List ℕ → Given
 reading types line =
-    if nat_lt 1048576 (length line) then refused E01 else reading_of types (without_return line)
+    if nat_lt line_limit (length line) then refused E01 else reading_of types (without_return line)
 
 -- a reader's answer; want of memory is free
 abbrev pub Reads : Given → Result Command LineFault → Type 0

@@ -3,6 +3,7 @@ use Rattle.std.specs.Prelude.{ℕ, Bool, true, false, List, [], ◌∷◌, ◌++
 use Rattle.std.specs.Prelude.{codes}
 use Rattle.std.specs.Fmt.{decimal}
 use Rattle.std.specs.List.{flat_map}
+use Rattle.gm_base.specs.Ascii.{line_feed, space}
 use Rattle.gm_base.specs.declared.code.Code.{Code}
 use Rattle.gm_base.specs.Code.{code_name, code_phrase}
 use Rattle.gm_feature.specs.declared.feature.Feature.{Feature}
@@ -14,7 +15,7 @@ use Rattle.gm_script.specs.declared.reply.Reply.TheVariants.{Described, Refusal}
 
 -- a line of its own
 abbrev pub line_of : List ℕ → List ℕ
-line_of text = text ++ 10 ∷ []
+line_of text = text ++ line_feed ∷ []
 
 abbrev pub stored_word : Bool → List ℕ
 stored_word true = codes " replaced"
@@ -48,7 +49,8 @@ row_number (Some number) = codes " row " ++ decimal number
 
 abbrev pub refusal_bytes : Code → Option ℕ → List ℕ
 refusal_bytes code number =
-    line_of (codes "error " ++ (code_name code ++ (32 ∷ (code_phrase code ++ row_number number))))
+    line_of (codes "error "
+    ++ (code_name code ++ (space ∷ (code_phrase code ++ row_number number))))
 
 unfoldable pub reply_bytes : Reply → List ℕ
 reply_bytes (Created name) = line_of (codes "ok create " ++ name)

@@ -20,9 +20,13 @@ use Rattle.gm_script.specs.declared.fault.LineFault.{LineFault}
 use Rattle.gm_script.specs.Order.{Asked, Order, asked_by, order_of}
 use Rattle.gm_script.specs.Order as order
 
+-- how many types there may be
+abbrev pub most_types : ℕ
+most_types = 100
+
 -- a further type takes the next number among 100, and no other has its name
 pub record IsNewType (types : List Specification) (t : Specification) : Type 0 where
-  pub room : length types < 100
+  pub room : length types < most_types
   pub typed : IsType t
   pub numbered : t.number ≡ length types
   pub named : number_of_name types t.name ≡ None

@@ -6,6 +6,7 @@ use Rattle.std.proofs.lemmas.Bool.{and_parts, and_from}
 use Rattle.std.proofs.lemmas.Int.{ints, clamps}
 use Rattle.std.proofs.lemmas.List.{append-nil}
 use Rattle.std.proofs.lemmas.List.Concat.{flat_map-append}
+use Rattle.gm_base.proofs.Lists.{all_append}
 use Rattle.gm_geom.specs.declared.point.Point.{Point}
 use Rattle.gm_geom.specs.declared.point.Box2.{Box2}
 use Rattle.gm_geom.specs.declared.geometry.Geometry.{Geometry}
@@ -16,7 +17,7 @@ use Rattle.gm_shapes.specs.declared.segment.Segment.{Segment}
 use Rattle.gm_shapes.specs.Segment.{box_of, reaches, do_overlap}
 use Rattle.gm_shapes.specs.Edge.{IsEdgeIn, edges_from, edges_between, edges_between_all, lone_edge}
 use Rattle.gm_shapes.specs.Edge.{edges_of}
-use Rattle.gm_shapes.proofs.Found.{all_append, all_front, all_back}
+use Rattle.gm_shapes.proofs.Found.{all_front, all_back}
 
 abbrev pub HoldsEdges : Box2 → List Segment → Type 0
 HoldsEdges box edges = AllByRecursion (IsEdgeIn box) edges

@@ -1,13 +1,9 @@
 -- What holds of each element of a list, and an element that passes a test.
 use Rattle.std.proofs.Common.{◌≡◌, Bool, true, false, ◌||◌, List, [], ◌∷◌, ◌++◌, refl, sym, ◌∙◌}
 use Rattle.std.specs.List.{list_any, AllByRecursion, count_by}
+use Rattle.gm_base.proofs.Lists.{all_append}
 use Rattle.gm_shapes.specs.Polygon.{is_odd}
 use Rattle.gm_shapes.proofs.Walks.{xor, odd_count-cons}
-
-pub all_append : {X : Type 0} (P : X → Type 0) (xs ys : List X) → AllByRecursion P xs
-    → AllByRecursion P ys → AllByRecursion P (xs ++ ys)
-all_append P [] ys front back = back
-all_append P (x ∷ xs) ys front back = (front.0, all_append P xs ys front.1 back)
 
 pub all_front : {X : Type 0} (P : X → Type 0) (xs ys : List X) → AllByRecursion P (xs ++ ys)
     → AllByRecursion P xs

@@ -3,6 +3,7 @@ use Rattle.std.proofs.Common.{◌≡◌, ◌↔◌, Bool, true, false, ◌||◌,
 use Rattle.std.proofs.Common.{Some, None, refl, sym, ap, ◌∙◌}
 use Rattle.std.proofs.Common.{inl, inr, arith}
 use Rattle.std.proofs.lemmas.Int.{ints, clamps}
+use Rattle.gm_base.proofs.Booleans.{fails_with, same_tests}
 use Rattle.gm_geom.specs.declared.geometry.Geometry.TheVariants as geo
 use Rattle.std.specs.List.{list_all, AllByRecursion}
 use Rattle.std.proofs.lemmas.Bool.{and_parts, and_from, or_cases, or_left, or_right, not-false}
@@ -115,11 +116,6 @@ overlap_box geometry b box kept hb across along =
     overlap_closed geometry (box_area box) b box (areas_closed geometry kept)
     (and_from _ _ (ring_closed box) refl, tt) hb (holds_corners box across along)
 
--- a test that fails settles one that only it lets pass
-fails_with : (t u seen : Bool) → (u ≡ true → t ≡ true) → seen ≡ t → seen ≡ false → seen ≡ u
-fails_with t u seen only e f =
-    f ∙ sym (false_from_ne_true u (λ h. both_ways t (sym e ∙ f) (only h)))
-
 pub apart : (one two : Geometry) (b c : Box2) (seen : Bool) → fault_of one ≡ None
     → fault_of two ≡ None → HoldsAll b (points_of one) → HoldsAll c (points_of two)
     → seen ≡ do_overlap b c → seen ≡ false → seen ≡ do_intersect one two
@@ -205,11 +201,6 @@ meets_in_box : (p : Point) (box : Box2) → box.low.x ≤ℤ box.high.x → box.
 meets_in_box p box across along met =
     point_in_bounds_closed p (box_area box) box (and_from _ _ (ring_closed box) refl, tt)
     (holds_corners box across along) met
-
-same_tests : (s t : Bool) → (s ≡ true → t ≡ true) → (t ≡ true → s ≡ true) → s ≡ t
-same_tests true t f g = sym (f refl)
-same_tests false true f g = g refl
-same_tests false false f g = refl
 
 pub point_in_box : (p : Point) (box : Box2) → box.low.x ≤ℤ box.high.x → box.low.y ≤ℤ box.high.y
     → do_overlap (lone_box p) box ≡ do_intersect (geo.Point p) (box_area box)

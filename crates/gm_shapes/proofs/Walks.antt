@@ -7,17 +7,13 @@ use Rattle.std.specs.List.{list_any, flat_map, count_by}
 use Rattle.std.proofs.lemmas.List.Folds.{list_any-append, list_any_at}
 use Rattle.std.proofs.lemmas.List.{flat_map_more, take_more}
 use Rattle.std.proofs.lemmas.List.Sums.{sum_by-append}
+use Rattle.gm_base.proofs.Lists.{any_map}
 use Rattle.gm_geom.specs.declared.point.Point.{Point}
 use Rattle.gm_shapes.specs.declared.segment.Segment.{Segment}
 use Rattle.gm_geom.specs.Geometry.{joined}
 use Rattle.gm_shapes.specs.Segment.{segment}
 use Rattle.gm_shapes.specs.Edge.{lone_edge, edges_from, edges_between, edges_between_all}
 use Rattle.gm_shapes.specs.Polygon.{is_odd, is_around, crosses}
-
-pub list_any-map : {X Y : Type 0} (test : Y → Bool) (f : X → Y) (xs : List X)
-    → list_any test (map f xs) ≡ list_any (λ x. test (f x)) xs
-list_any-map test f [] = refl
-list_any-map test f (x ∷ xs) = ap (λ b. test (f x) || b) (list_any-map test f xs)
 
 pub list_any-flat_map : {X Y : Type 0} (test : Y → Bool) (f : X → List Y) (xs : List X)
     → list_any test (flat_map f xs) ≡ list_any (λ x. list_any test (f x)) xs
@@ -31,7 +27,7 @@ pub found_point : (test : Segment → Bool) (points : List Point) (i : ℕ) (d :
     → i < length points → test (lone_edge (get_or points i d)) ≡ true
     → list_any test (map lone_edge points) ≡ true
 found_point test points i d below found =
-    list_any-map test lone_edge points
+    any_map test lone_edge points
     ∙ list_any_at (λ p. test (lone_edge p)) points i d below found
 
 pub found_line : (test : Segment → Bool) (lines : List (List Point)) (i : ℕ) (d : List Point)

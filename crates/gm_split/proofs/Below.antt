@@ -5,6 +5,7 @@ use Rattle.std.specs.Prelude.{Bool, true, false, cond, not, Option, Some, None, 
 use Rattle.std.specs.List.{AllByRecursion}
 use Rattle.std.proofs.lemmas.Bool.{cases_lt, cases_Bool, both_ways, and_right, and_left, cond-true}
 use Rattle.std.proofs.lemmas.Bool.{cond-false, not_from_true, not_from_false, and_from, and_parts}
+use Rattle.gm_base.proofs.Lists.{all_append}
 use Rattle.gm_trees.specs.declared.node.Node.{Node}
 use Rattle.gm_trees.specs.declared.window.Window.{Window}
 use Rattle.gm_trees.specs.Tree.{Shape, HasCode, IsTree}
@@ -70,11 +71,6 @@ pub count_join : (D : ℕ) (s : Shape) (ws : List Window) (k : ℕ) (xs ys : Lis
     → pieces_count D s ws k (xs ++ ys) ≡ pieces_count D s ws k xs + pieces_count D s ws k ys
 count_join D s ws k [] ys = omega arith
 count_join D s ws k (x ∷ xs) ys = omega (arith, count_join D s ws k xs ys)
-
-pub all_join : {X : Type 0} (P : X → Type 0) (xs ys : List X) → AllByRecursion P xs
-    → AllByRecursion P ys → AllByRecursion P (xs ++ ys)
-all_join P [] ys front back = back
-all_join P (x ∷ xs) ys front back = (front.0, all_join P xs ys front.1 back)
 
 -- how a node lies to the windows
 pub data Lies (D : ℕ) (s : Shape) (ws : List Window) (n : Node) : Type 0 where
@@ -304,7 +300,7 @@ module _ (D : ℕ) (s : Shape) (ws : List Window) (Comes : Node → Type 0)
   children_stand n l zero comes level at most = tt
   children_stand n l (suc m) comes level at most =
       let few : m < 2 ^ D = omega arith in
-      all_join (IsPieceAt D s Comes ws (l + 1)) (child_pieces D s ws n m)
+      all_append (IsPieceAt D s Comes ws (l + 1)) (child_pieces D s ws n m)
       (option_to_list (piece_of D s ws (s.child n m)))
       (children_stand n l m comes level at (omega arith))
       (piece_stands (s.child n m) (l + 1) (tree.child_comes n m comes level few)
@@ -357,7 +353,7 @@ module _ (D : ℕ) (s : Shape) (ws : List Window) (Comes : Node → Type 0)
   pub opened_stand : (n : Node) (l : ℕ) → Comes n → n.level < s.depth → n.level ≡ l
       → AllByRecursion (IsPieceAt D s Comes ws (l + 1)) (opened D s ws n)
   opened_stand n l comes level at =
-      all_join (IsPieceAt D s Comes ws (l + 1)) (own_pieces (s.own n))
+      all_append (IsPieceAt D s Comes ws (l + 1)) (own_pieces (s.own n))
       (child_pieces D s ws n (2 ^ D)) (own_stand (l + 1) (s.own n))
       (children_stand n l (2 ^ D) comes level at (omega arith))
 
@@ -404,6 +400,6 @@ module _ (D : ℕ) (s : Shape) (ws : List Window) (Comes : Node → Type 0)
   all_stand l [] stand deep = tt
   all_stand l (Codes low high ∷ ps) stand deep = (stand.0, all_stand l ps stand.1 deep)
   all_stand l (Partial n near ∷ ps) stand deep =
-      all_join (IsPieceAt D s Comes ws (l + 1)) (opened D s ws n) (opened_all D s ws ps)
+      all_append (IsPieceAt D s Comes ws (l + 1)) (opened D s ws n) (opened_all D s ws ps)
       (opened_stand n l stand.0.0 (omega (arith, stand.0.1)) stand.0.1)
       (all_stand l ps stand.1 deep)

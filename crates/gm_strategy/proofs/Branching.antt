@@ -5,6 +5,7 @@ use Rattle.std.proofs.lemmas.Bool.{and_parts, and_from}
 use Rattle.std.proofs.lemmas.List.Folds.{list_any-append, list_all-append}
 use Rattle.std.specs.List.{list_all, list_any}
 use Rattle.std.specs.Prelude.{nat_le}
+use Rattle.gm_base.proofs.Booleans.{or_false}
 use Rattle.gm_types.specs.Specification.{Specification}
 use Rattle.gm_feature.specs.declared.feature.Feature.{Feature}
 use Rattle.gm_filter.specs.Suitability.{Suits, suits, all_suit}
@@ -16,33 +17,29 @@ use Rattle.gm_strategy.specs.Branches.{branches_of, branches_in}
 
 -- ---- truth
 
-pub alone : (b : Bool) → b ≡ (b || false)
-alone true = refl
-alone false = refl
-
 module _ (f : Feature)
     (either : (ts : Trees) → is_true f (any ts) ≡ list_any (is_true f) (members_of ts)) where
   mutual
     pub branches_decide : (t : Tree) → is_true f t ≡ list_any (is_true f) (branches_of t)
     branches_decide (any ts) = either ts ∙ members_decide ts
-    branches_decide include = alone _
-    branches_decide exclude = alone _
-    branches_decide (negated t) = alone _
-    branches_decide (all ts) = alone _
-    branches_decide (compare a op l) = alone _
-    branches_decide (between a low high) = alone _
-    branches_decide (like a pattern) = alone _
-    branches_decide (one_of a literals) = alone _
-    branches_decide (is_null a) = alone _
-    branches_decide (ids texts) = alone _
-    branches_decide (bbox a b) = alone _
-    branches_decide (intersects a g) = alone _
-    branches_decide (disjoint a g) = alone _
-    branches_decide (within a g) = alone _
-    branches_decide (during a low high) = alone _
-    branches_decide (before a at) = alone _
-    branches_decide (after a at) = alone _
-    branches_decide (tequals a at) = alone _
+    branches_decide include = or_false _
+    branches_decide exclude = or_false _
+    branches_decide (negated t) = or_false _
+    branches_decide (all ts) = or_false _
+    branches_decide (compare a op l) = or_false _
+    branches_decide (between a low high) = or_false _
+    branches_decide (like a pattern) = or_false _
+    branches_decide (one_of a literals) = or_false _
+    branches_decide (is_null a) = or_false _
+    branches_decide (ids texts) = or_false _
+    branches_decide (bbox a b) = or_false _
+    branches_decide (intersects a g) = or_false _
+    branches_decide (disjoint a g) = or_false _
+    branches_decide (within a g) = or_false _
+    branches_decide (during a low high) = or_false _
+    branches_decide (before a at) = or_false _
+    branches_decide (after a at) = or_false _
+    branches_decide (tequals a at) = or_false _
 
     members_decide : (ts : Trees)
         → list_any (is_true f) (members_of ts) ≡ list_any (is_true f) (branches_in ts)

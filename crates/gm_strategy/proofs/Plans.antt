@@ -8,6 +8,7 @@ use Rattle.std.proofs.lemmas.List.{length-map}
 use Rattle.std.specs.List.{list_all, list_any, AllByRecursion, All}
 use Rattle.std.specs.Borrow.{Bor}
 use Rattle.std.specs.Prelude.{nat_le, option_map}
+use Rattle.gm_base.proofs.Booleans.{or_false}
 use Rattle.gm_types.specs.declared.index.IndexKind.{IndexKind}
 use Rattle.gm_types.specs.Specification.{Specification}
 use Rattle.gm_feature.specs.declared.feature.Feature.{Feature}
@@ -19,7 +20,7 @@ use Rattle.gm_strategy.specs.Branches.{branches_of, trees_in}
 use Rattle.gm_strategy.specs.Choice.{Chosen, chosen, choice_of, chosen_for, IsServed}
 use Rattle.gm_strategy.specs.Cost.{cost_of}
 use Rattle.gm_strategy.specs.Plan.{is_bounded, is_split, parts_of, plan_of}
-use Rattle.gm_strategy.proofs.Branching.{alone, branches_decide, branches_suit, some_branch}
+use Rattle.gm_strategy.proofs.Branching.{branches_decide, branches_suit, some_branch}
 use Rattle.gm_strategy.proofs.Choosing.{served, choice_served}
 use Rattle.gm_strategy.proofs.Gathering.{few}
 
@@ -70,8 +71,8 @@ pub parts_decide : ((f : Feature) (ts : Trees)
 parts_decide either s t hint parts h f =
     in_plan (λ ps. is_true f t ≡ list_any (λ part. is_true f part.wanted) ps) s t hint parts
     (λ _. branches_decide f (either f) t ∙ chosen_decide s f (branches_of t))
-    (alone (is_true f t))
-    (λ _ _ _. alone (is_true f t))
+    (or_false (is_true f t))
+    (λ _ _ _. or_false (is_true f t))
     h
 
 -- ---- what is read

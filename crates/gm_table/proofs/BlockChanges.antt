@@ -6,6 +6,7 @@ use Rattle.std.proofs.Math.ListN.{set}
 use Rattle.std.proofs.lemmas.List.{get_or_default}
 use Rattle.std.specs.List.{insert, remove}
 use Rattle.std.specs.Prelude.{Result, Ok, Err, OnOk, OnErr}
+use Rattle.gm_base.proofs.Options.{on_ok}
 use Rattle.gm_table.specs.declared.row.Row.{Row}
 use Rattle.gm_table.specs.declared.blocks.block.Block.{Block}
 use Rattle.gm_table.specs.Blocks.{pair_of, pairs_of, rows_of, lists_of, most_rows, IsPlace, IsRowAt}
@@ -509,11 +510,6 @@ same_second before after n count more row d cut within sum inside size some =
           (drop_second rows more count ∙ ap (λ k. drop k rows) (sym sum))
           ∙ sym (rows_at_get before n row d within);
     }
-
--- ---- what holds of an answer
-pub on_ok : {X E : Type 0} (r : Result X E) (P Q : Type 0) → (P → Q) → OnOk r P → OnOk r Q
-on_ok (Ok x) P Q more is = more is
-on_ok (Err e) P Q more is = tt
 
 pub on_err : {X E : Type 0} (r : Result X E) (P Q : Type 0) → (P → Q) → OnErr r P → OnErr r Q
 on_err (Ok x) P Q more is = tt

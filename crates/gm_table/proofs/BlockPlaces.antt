@@ -11,6 +11,7 @@ use Rattle.std.specs.declared.cmp.Ordering.TheVariants.{Less, Equal, Greater}
 use Rattle.std.specs.List.{AllByRecursion, AllWithin}
 use Rattle.std.specs.List.Sorted.{IsStrictlySortedBy, IsPartitionedBy}
 use Rattle.std.specs.Map.{keys_of}
+use Rattle.gm_base.proofs.Booleans.{true_of_not, false_of_not}
 use Rattle.gm_table.specs.declared.row.Row.{Row}
 use Rattle.gm_table.specs.declared.blocks.block.Block.{Block}
 use Rattle.gm_table.specs.Sorted.{Rows, IsRising}
@@ -50,14 +51,6 @@ not_le_below key a b less up =
       | false ↦ λ _. refl
     ] refl
 
-not_false : (b : Bool) → not b ≡ false → b ≡ true
-not_false true e = refl
-not_false false e = absurd (true≢false e)
-
-not_true : (b : Bool) → not b ≡ true → b ≡ false
-not_true true e = absurd (true≢false (sym e))
-not_true false e = refl
-
 -- ---- rows of a block in order
 key_at : (P : List ℕ → Type 0) (rows : List Row) → AllByRecursion P (keys_of (pairs_of rows))
     → (i : ℕ) (d : Row) → i < length rows → P (get_or rows i d).key
@@ -83,7 +76,8 @@ before_before : (key a b : List ℕ) → slice_cmp nat_cmp a b ≡ Less
 before_before key a b less away =
     elim (is_le (slice_cmp nat_cmp key a)) as
     (λ t. is_le (slice_cmp nat_cmp key a) ≡ t → not t ≡ true) [
-      | true ↦ λ e. absurd (true≢false (sym (le_trans key a b e (ap is_le less)) ∙ not_true _ away))
+      | true ↦ λ e. absurd
+          (true≢false (sym (le_trans key a b e (ap is_le less)) ∙ false_of_not _ away))
       | false ↦ λ _. refl
     ] refl
 
@@ -105,14 +99,14 @@ pub parts_at : (key : List ℕ) (rows : List Row) (i : ℕ)
 parts_at key [] zero before others = record { before = refl; from = refl }
 parts_at key [] (suc i) before others = record { before = refl; from = refl }
 parts_at key (row ∷ rows) zero before others =
-    let reached = not_false _ (others 0 row (omega arith) (omega arith)) in
+    let reached = true_of_not _ (others 0 row (omega arith) (omega arith)) in
     record {
       before = sym (ap (λ b. cond b [] (pair_of row ∷ rows_below key (pairs_of rows))) reached);
       from = sym (ap
           (λ b. cond b (pair_of row ∷ pairs_of rows) (rows_after key (pairs_of rows))) reached);
     }
 parts_at key (row ∷ rows) (suc i) before others =
-    let away = not_true _ (before 0 row (omega arith) (omega arith)) in
+    let away = false_of_not _ (before 0 row (omega arith) (omega arith)) in
     let rest = parts_at key rows i (λ k d low up. before (suc k) d (omega arith) (omega arith))
     (λ k d low up. others (suc k) d (omega arith) (omega arith)) in
     record {

@@ -11,6 +11,7 @@ use Rattle.std.specs.List.{AllByRecursion}
 use Rattle.std.specs.List.Sorted.{IsStrictlySortedBy}
 use Rattle.std.specs.Map.{keys_of}
 use denote.Ref.{Bor}
+use Rattle.gm_base.proofs.Numbers.{le_of_not_gt}
 use Rattle.gm_table.specs.Sorted.{Rows, IsRising, between}
 use Rattle.gm_table.specs.Cursor.{pending, rows_from, rows_below, rows_after, IsClear, IsLastOf}
 
@@ -172,11 +173,6 @@ clear-none from low high rows place rest rising at up clear =
     between-narrower from low high rows up
     (sym (below-is from high rows rising) ∙ sym (ap (rows_below high) at)
     ∙ clear-below high place rest clear)
-
-pub up_to : (r : Ordering) → is_gt r ≡ false → is_le r ≡ true
-up_to Less e = refl
-up_to Equal e = refl
-up_to Greater e = absurd (true≢false e)
 
 pub not_up_to : (r : Ordering) → is_le r ≡ false → is_gt r ≡ true
 not_up_to Less e = absurd (true≢false e)

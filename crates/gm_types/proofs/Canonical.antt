@@ -8,6 +8,7 @@ use Rattle.std.specs.Str.{is_utf8}
 use Rattle.std.proofs.lemmas.Bool.{and_parts, and_from, not-true, eq-eqb, ne_eqb}
 use Rattle.std.proofs.lemmas.List.Sums.{sum_by-cons}
 use Rattle.std.proofs.lemmas.Option.{slice_get-map}
+use Rattle.gm_base.proofs.Options.{same_some}
 use Rattle.gm_types.specs.declared.attribute.Attribute.{Attribute}
 use Rattle.gm_types.specs.declared.datum.Datum.{Datum}
 use Rattle.gm_types.specs.Datum.{is_datum}
@@ -20,7 +21,6 @@ use Rattle.gm_types.specs.Spelling.{WrittenAttribute, WrittenDatum, has_blanks, 
 use Rattle.gm_types.specs.Spelling.{Spells, canonical_attributes, needs_quotes, canonical_datum}
 use Rattle.gm_types.specs.Spelling.{canonical_text, separated}
 use Rattle.gm_types.specs.Words.{is_bare, is_bare_form, is_quotable, has_no_quote, is_key}
-use Rattle.gm_types.proofs.Cuts.{same_some}
 use Rattle.gm_types.proofs.Lists.{position_here, position_later, none_passes}
 use Rattle.gm_types.proofs.Spelled.{spelled_is_read}
 use Rattle.gm_types.proofs.Together.{geometry_there}

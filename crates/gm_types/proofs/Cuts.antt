@@ -7,6 +7,8 @@ use Rattle.std.specs.List.{onto_first}
 use Rattle.std.proofs.lemmas.Bool.{eq-eqb, ne_eqb}
 use Rattle.std.proofs.lemmas.List.{take_all, length-drop}
 use Rattle.std.proofs.Math.Seq.{take-suc}
+use Rattle.gm_base.proofs.Options.{same_some}
+use Rattle.gm_base.proofs.Lists.{rest_whole}
 use Rattle.gm_types.specs.Words.{is_blank}
 use Rattle.gm_types.specs.Parts.{turned, ends_part, parts_from, parts_of, part_len, cut_once}
 use Rattle.gm_types.specs.Parts.{before_end, trimmed_end}
@@ -21,9 +23,6 @@ pub cut_some : (mark : ℕ) (text : List ℕ) (n : ℕ) → n ≡ part_len mark 
 unfolding cut_once
 cut_some mark text n e h =
     rw (ne_eqb (part_len mark false text) (length text) (λ same. h (e ∙ same))) (rw e refl)
-
-pub rest_whole : (text : List ℕ) (n : ℕ) → take (length text - n) (drop n text) ≡ drop n text
-rest_whole text n = take_all (length text - n) (drop n text) (omega (arith, length-drop n text))
 
 -- a blank at the end falls away, and another byte stays
 end_blank : (b : ℕ) → is_blank b ≡ true → (xs : List ℕ)
@@ -97,9 +96,6 @@ parts_first mark open_quote (byte ∷ bytes) =
 
 pub some_none : {A : Type 0} (x : A) → Some x ≡ None → ⊥
 some_none x e = cc
-
-pub same_some : {A : Type 0} (x y : A) → Some x ≡ Some y → x ≡ y
-same_some x y e = cc
 
 no_cut : (mark : ℕ) (text : List ℕ) → part_len mark false text < length text
     → cut_once mark text ≡ None → ⊥

@@ -7,6 +7,7 @@ use Rattle.std.specs.Prelude.{option_map}
 use Rattle.std.specs.List.{list_any}
 use Rattle.std.proofs.Math.Bool.{and-true, and-false}
 use Rattle.std.proofs.lemmas.Bool.{and_parts, and_from, or_parts, not-true, false≢true, cases_eq}
+use Rattle.gm_base.proofs.Options.{same_some}
 use Rattle.gm_types.specs.declared.attribute.Attribute.{Attribute}
 use Rattle.gm_types.specs.declared.index.IndexKind.{IndexKind}
 use Rattle.gm_types.specs.declared.index.IndexKind.TheVariants.{Id, Z2, Z3, Xz2, Xz3, Attr}
@@ -16,7 +17,7 @@ use Rattle.gm_types.specs.Index.{index_meant, index_if, is_indexed_one, lists_wo
 use Rattle.gm_types.specs.Specification.{Specification, names_of}
 use Rattle.gm_types.specs.Words.{same_text, are_distinct}
 use Rattle.std.proofs.lemmas.Option.{slice_get_within}
-use Rattle.gm_types.proofs.Cuts.{some_none, same_some}
+use Rattle.gm_types.proofs.Cuts.{some_none}
 use Rattle.gm_types.proofs.Lists.{position_here, position_later, none_passes}
 use Rattle.gm_types.proofs.Noted.{same_list, same_itself, same_sym}
 

@@ -3,6 +3,7 @@ use Rattle.std.proofs.Common.{◌≡◌, ℕ, Bool, true, false, ◌&&◌, List,
 use Rattle.std.proofs.Common.{Ok, Err, refl, sym, ◌∙◌, ap, subst}
 use Rattle.std.specs.Prelude.{IfOk}
 use Rattle.std.proofs.lemmas.Bool.{and_parts, and_from}
+use Rattle.gm_base.proofs.Options.{same_some}
 use Rattle.gm_types.specs.declared.attribute.Attribute.{Attribute}
 use Rattle.gm_types.specs.declared.datum.Datum.{Datum}
 use Rattle.gm_types.specs.declared.fault.SpecFault.{SpecFault}
@@ -20,7 +21,7 @@ use Rattle.gm_types.specs.Reader.{outline_with, outline_of, is_consistent, consi
 use Rattle.gm_types.specs.Reader.{specification_of, IsReadAs}
 use Rattle.gm_types.specs.Specification.{Specification, names_of}
 use Rattle.gm_types.specs.Words.{is_name, are_distinct}
-use Rattle.gm_types.proofs.Cuts.{some_none, same_some}
+use Rattle.gm_types.proofs.Cuts.{some_none}
 use Rattle.gm_types.proofs.ReadParts.{value_taken}
 use Rattle.gm_types.proofs.Validity.{IsOutlineOf, outline_valid, valid_from}
 

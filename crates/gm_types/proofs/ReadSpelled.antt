@@ -7,6 +7,7 @@ use Rattle.std.specs.List.{list_all, prefix_len, onto_first, join_with_byte}
 use Rattle.std.proofs.lemmas.Bool.{and_parts, and_from, eqb-true}
 use Rattle.std.proofs.lemmas.List.{append-nil, take-append-drop, take_all}
 use Rattle.std.proofs.Math.Seq.{take-suc}
+use Rattle.gm_base.proofs.Options.{same_some}
 use Rattle.gm_types.specs.FeatureType.{IsValid}
 use Rattle.gm_types.specs.declared.attribute.Attribute.{Attribute}
 use Rattle.gm_types.specs.declared.attribute.AttributeOption.{AttributeOption}
@@ -34,7 +35,7 @@ use Rattle.gm_types.specs.Spelling.{WrittenAttribute, written_attribute, Written
 use Rattle.gm_types.specs.Spelling.{written_datum, data_part, has_blanks, may_be_written, Spells}
 use Rattle.gm_types.specs.Words.{is_name, is_key, is_bare, is_blank, is_quotable, same_text}
 use Rattle.gm_types.specs.Words.{are_distinct}
-use Rattle.gm_types.proofs.Cuts.{some_none, same_some, PartsAt, parts_first, parts_some}
+use Rattle.gm_types.proofs.Cuts.{some_none, PartsAt, parts_first, parts_some}
 use Rattle.gm_types.proofs.Noted.{same_list}
 use Rattle.gm_types.proofs.Outlined.{read_valid}
 

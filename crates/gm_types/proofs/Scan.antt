@@ -6,10 +6,12 @@ use Rattle.std.specs.Prelude.{not, if◌then◌else◌, option_and_then}
 use Rattle.std.specs.List.{list_all, prefix_len, onto_first, join_with_byte}
 use Rattle.std.proofs.lemmas.Bool.{and_parts, eq-eqb, not-true}
 use Rattle.std.proofs.lemmas.List.{length-append}
+use Rattle.gm_base.proofs.Options.{same_some}
+use Rattle.gm_base.proofs.Lists.{take_front}
 use Rattle.gm_types.specs.Words.{is_blank}
 use Rattle.gm_types.specs.Parts.{turned, ends_part, parts_from, parts_of, part_len, cut_once}
 use Rattle.gm_types.specs.Parts.{before_end, trimmed_end, trimmed}
-use Rattle.gm_types.proofs.Cuts.{cut_none, cut_some, some_none, same_some}
+use Rattle.gm_types.proofs.Cuts.{cut_none, cut_some, some_none}
 
 -- whether a quote is open behind a text in which no part ends, and nothing where one does
 abbrev pub scan : ℕ → Bool → List ℕ → Option Bool
@@ -163,10 +165,6 @@ len_end mark open_quote o (b ∷ text) e =
         → (if t then 0 else 1 + part_len mark (turned open_quote b) text) ≡ suc (length text)
     go true h rec = absurd (some_none o (sym h))
     go false h rec = let same = rec h in omega (arith, same)
-
-take_front : (text rest : List ℕ) → take (length text) (text ++ rest) ≡ text
-take_front [] rest = refl
-take_front (b ∷ text) rest = ap (λ t. b ∷ t) (take_front text rest)
 
 drop_front : (mark : ℕ) (text rest : List ℕ) → drop (suc (length text)) (text ++ mark ∷ rest) ≡ rest
 drop_front mark [] rest = refl

@@ -6,6 +6,7 @@ use Rattle.std.specs.Prelude.{nat_le, slice_index_or, ◌-◌, if◌then◌else�
 use Rattle.std.specs.List.{list_all, join_with_byte}
 use Rattle.std.specs.Str.{is_utf8}
 use Rattle.std.proofs.lemmas.Bool.{and_parts, and_from, or_left, or_right, eqb-true, false≢true}
+use Rattle.gm_base.proofs.Options.{same_some}
 use Rattle.gm_types.specs.declared.attribute.Attribute.{Attribute}
 use Rattle.gm_types.specs.declared.attribute.AttributeOption.{AttributeOption}
 use Rattle.gm_types.specs.declared.datum.Datum.{Datum}
@@ -36,7 +37,6 @@ use Rattle.gm_types.specs.Words.{is_blank, is_quotable, has_no_quote, are_distin
 use Rattle.gm_types.proofs.Scan.{IsWhole, AreWhole, IsTight, whole_append, whole_plain}
 use Rattle.gm_types.proofs.Scan.{whole_quoted, parts_join, cut_whole, uncut_whole, trimmed_tight}
 use Rattle.std.proofs.lemmas.List.{length-append}
-use Rattle.gm_types.proofs.Cuts.{same_some}
 use Rattle.gm_types.proofs.ByteClasses.{apart, all_plain, all_append, all_more, no_blank, name_keys}
 use Rattle.gm_types.proofs.ByteClasses.{kind_keys, key_keys, bare_bares, IsPair, pair_of}
 use Rattle.gm_types.proofs.ByteClasses.{is_attribute_byte, IsMade, made, starred_bytes, last_of}

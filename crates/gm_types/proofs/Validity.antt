@@ -8,6 +8,7 @@ use Rattle.std.specs.List.{list_all}
 use Rattle.std.specs.Str.{is_utf8}
 use Rattle.std.proofs.lemmas.Bool.{and_parts, and_from, or_parts, not-true, not_from_false}
 use Rattle.std.proofs.lemmas.Option.{slice_get-map}
+use Rattle.gm_base.proofs.Options.{same_some}
 use Rattle.gm_types.specs.declared.attribute.Attribute.{Attribute}
 use Rattle.gm_types.specs.declared.attribute.AttributeOption.{AttributeOption}
 use Rattle.gm_types.specs.declared.datum.Datum.{Datum}
@@ -30,7 +31,7 @@ use Rattle.gm_types.specs.Reader.{specification_if, outline_with, outline_of}
 use Rattle.gm_types.specs.Specification.{Specification, kind_at, names_of}
 use Rattle.gm_types.specs.Words.{is_name, is_key, is_bare, is_bare_byte, is_bare_form, is_blank}
 use Rattle.gm_types.specs.Words.{is_mark, is_quotable, has_no_quote, are_distinct}
-use Rattle.gm_types.proofs.Cuts.{PartsAt, parts_first, some_none, same_some}
+use Rattle.gm_types.proofs.Cuts.{PartsAt, parts_first, some_none}
 use Rattle.gm_types.proofs.Lists.{found_at, none_found}
 use Rattle.gm_types.proofs.ReadParts.{value_taken}
 

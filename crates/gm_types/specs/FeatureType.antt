@@ -4,6 +4,7 @@ use Rattle.std.specs.Prelude.{◌≡◌, ℕ, ◌<◌, ◌≤◌, ◌^◌, Bool,
 use Rattle.std.specs.Prelude.{length, codes, slice_get, Option, Some, None, is_some, option_map}
 use Rattle.std.specs.Prelude.{option_and_then}
 use Rattle.std.specs.List.{list_all, list_any}
+use Rattle.gm_types.specs.Specification.{most_attributes}
 use Rattle.gm_types.specs.declared.attribute.Attribute.{Attribute}
 use Rattle.gm_types.specs.declared.index.IndexKind.TheVariants.{Z2, Z3, Xz2, Xz3, Attr}
 use Rattle.gm_types.specs.declared.kind.GeoKind.TheVariants.{Point}
@@ -117,7 +118,7 @@ pub record IsReadType (name : List ℕ) (number : ℕ) (t : Specification) : Typ
 pub record IsType (t : Specification) : Type 0 where
   pub named : is_name t.name ≡ true
   pub numbered : t.number < 2 ^ 16
-  pub few : length t.attributes ≤ 64
+  pub few : length t.attributes ≤ most_attributes
   pub valid : IsValid t
 
 -- the place of a default geometry is that of an attribute that holds geometries, those of the

@@ -4,6 +4,7 @@ use Rattle.std.specs.Prelude.{[], ◌∷◌, ◌++◌, length, take, drop, filte
 use Rattle.std.specs.Prelude.{slice_get, Option, Some, None, is_some, option_map}
 use Rattle.std.specs.List.{list_any}
 use Rattle.std.specs.Option.{option_map_or}
+use Rattle.gm_base.specs.Ascii.{comma}
 use Rattle.gm_types.specs.declared.attribute.Attribute.{Attribute}
 use Rattle.gm_types.specs.declared.index.IndexKind.{IndexKind}
 use Rattle.gm_types.specs.declared.index.IndexKind.TheVariants.{Id, Z2, Z3, Xz2, Xz3, Attr}
@@ -42,7 +43,7 @@ fits_index t (Attr number) = is_indexed_one (slice_get t.attributes number)
 
 -- the members of a list by commas
 abbrev pub members_of : List ℕ → List (List ℕ)
-members_of text = parts_of 44 text
+members_of text = parts_of comma text
 
 abbrev pub is_member : List ℕ → List ℕ → Bool
 is_member word listed = list_any (same_text word) (members_of listed)

@@ -3,11 +3,12 @@
 use Rattle.std.specs.Prelude.{ℕ, ◌+◌, Bool, false, not, ◌&&◌, ◌==◌, if◌then◌else◌, List, [], ◌∷◌}
 use Rattle.std.specs.Prelude.{length, take, drop, Option, Some, None}
 use Rattle.std.specs.List.{prefix_len, onto_first}
+use Rattle.gm_base.specs.Ascii.{single_quote}
 use Rattle.gm_types.specs.Words.{is_blank}
 
 -- whether a quote is open behind a byte
 abbrev pub turned : Bool → ℕ → Bool
-turned open_quote byte = if byte == 39 then not open_quote else open_quote
+turned open_quote byte = if byte == single_quote then not open_quote else open_quote
 
 -- the byte is the mark, and no quote is open
 abbrev pub ends_part : ℕ → Bool → ℕ → Bool

@@ -3,6 +3,8 @@ use Rattle.std.specs.Prelude.{◌≡◌, ℕ, ◌<◌, ◌≤◌, ◌-◌, Bool,
 use Rattle.std.specs.Prelude.{if◌then◌else◌, List, [], ◌∷◌, length, take, map, position, count_by}
 use Rattle.std.specs.Prelude.{slice_get, slice_index_or, Option, Some, None, Result, Ok, Err}
 use Rattle.std.specs.Prelude.{option_map, codes}
+use Rattle.gm_types.specs.Specification.{most_attributes}
+use Rattle.gm_base.specs.Ascii.{colon, comma, equals_sign, semicolon, single_quote, star}
 use Rattle.gm_types.specs.declared.attribute.Attribute.{Attribute}
 use Rattle.gm_types.specs.declared.attribute.AttributeOption.{AttributeOption}
 use Rattle.gm_types.specs.declared.datum.Datum.{Datum}
@@ -67,12 +69,12 @@ option_from kind (Some cut) = option_with kind cut.0 cut.1
 
 -- `key=value`
 unfoldable pub option_of : Kind → List ℕ → Option AttributeOption
-option_of kind text = option_from kind (cut_once 61 text)
+option_of kind text = option_from kind (cut_once equals_sign text)
 
 -- the options behind the type: none, or one behind each colon
 abbrev pub options_of : Kind → Option (List ℕ) → Option (List AttributeOption)
 options_of kind None = Some []
-options_of kind (Some text) = read_all (option_of kind) (parts_of 58 text)
+options_of kind (Some text) = read_all (option_of kind) (parts_of colon text)
 
 abbrev pub attribute_if : Bool → List ℕ → Kind → List AttributeOption → Option Attribute
 attribute_if ok name kind options = if ok then Some (attribute_from name kind options) else None
@@ -98,21 +100,21 @@ behind_of (Some cut) = Some cut.1
 abbrev pub attribute_behind : List ℕ → Option (List ℕ) → Option Attribute
 attribute_behind name None = None
 attribute_behind name (Some text) =
-    attribute_typed name (kind_named (front_of text (cut_once 58 text)))
-    (behind_of (cut_once 58 text))
+    attribute_typed name (kind_named (front_of text (cut_once colon text)))
+    (behind_of (cut_once colon text))
 
 -- `name:type` and the options
 abbrev pub attribute_in : List ℕ → Option Attribute
 attribute_in text =
-    attribute_behind (front_of text (cut_once 58 text)) (behind_of (cut_once 58 text))
+    attribute_behind (front_of text (cut_once colon text)) (behind_of (cut_once colon text))
 
 abbrev pub begins_with_star : List ℕ → Bool
 begins_with_star [] = false
-begins_with_star (byte ∷ bytes) = byte == 42
+begins_with_star (byte ∷ bytes) = byte == star
 
 abbrev pub without_star : List ℕ → List ℕ
 without_star [] = []
-without_star (byte ∷ bytes) = if byte == 42 then bytes else byte ∷ bytes
+without_star (byte ∷ bytes) = if byte == star then bytes else byte ∷ bytes
 
 -- an attribute between two commas, and whether it has a star
 unfoldable pub attribute_of : List ℕ → Option Attribute
@@ -128,13 +130,15 @@ value_if ok value = if ok then Some value else None
 abbrev pub quoted_value : List ℕ → Option (List ℕ)
 quoted_value rest =
     let len = length rest - 1 in
-    value_if (slice_index_or rest len 0 == 39 && is_quotable (take len rest)) (take len rest)
+    value_if (slice_index_or rest len 0 == single_quote && is_quotable (take len rest))
+    (take len rest)
 
 -- the value of a datum, bare or in quotes
 unfoldable pub value_of : List ℕ → Option (List ℕ)
 value_of [] = None
 value_of (byte ∷ bytes) =
-    if byte == 39 then quoted_value bytes else value_if (is_bare (byte ∷ bytes)) (byte ∷ bytes)
+    if byte == single_quote then quoted_value bytes
+    else value_if (is_bare (byte ∷ bytes)) (byte ∷ bytes)
 
 abbrev pub datum_if : Bool → List ℕ → List ℕ → Option Datum
 datum_if ok key value = if ok then Some record { key = key; value = value } else None
@@ -149,18 +153,18 @@ datum_from (Some cut) = datum_with cut.0 (value_of cut.1)
 
 -- a datum between two commas: `key=value`
 unfoldable pub datum_of : List ℕ → Option Datum
-datum_of part = datum_from (cut_once 61 (trimmed part))
+datum_of part = datum_from (cut_once equals_sign (trimmed part))
 
 -- the attributes and the user data, by commas
 abbrev pub attributes_of : List ℕ → Option (List Attribute)
-attributes_of text = read_all attribute_of (parts_of 44 text)
+attributes_of text = read_all attribute_of (parts_of comma text)
 
 abbrev pub stars_of : List ℕ → List Bool
-stars_of text = map is_starred (parts_of 44 text)
+stars_of text = map is_starred (parts_of comma text)
 
 abbrev pub data_of : Option (List ℕ) → Option (List Datum)
 data_of None = Some []
-data_of (Some text) = read_all datum_of (parts_of 44 text)
+data_of (Some text) = read_all datum_of (parts_of comma text)
 
 -- the place of the star, else that of the first geometry
 abbrev pub place_or : Option ℕ → Option ℕ → Option ℕ
@@ -209,9 +213,9 @@ outline_with name number stars (Some attributes) (Some given) =
 -- the attributes before the first `;`, and the user data behind it
 unfoldable pub outline_of : List ℕ → ℕ → List ℕ → Option Specification
 outline_of name number text =
-    let attributes = front_of text (cut_once 59 text) in
+    let attributes = front_of text (cut_once semicolon text) in
     outline_with name number (stars_of attributes) (attributes_of attributes)
-    (data_of (behind_of (cut_once 59 text)))
+    (data_of (behind_of (cut_once semicolon text)))
 
 -- names and keys stand once each, and the listed keys have listed values
 abbrev pub is_consistent : Specification → Bool
@@ -227,8 +231,8 @@ specification_of name number text = consistent_only (outline_of name number text
 
 -- what reading a specification answers
 abbrev pub IsReadAs : Option Specification → Result Specification SpecFault → Type 0
-IsReadAs wanted (Ok t) = (wanted ≡ Some t) × (length t.attributes ≤ 64)
+IsReadAs wanted (Ok t) = (wanted ≡ Some t) × (length t.attributes ≤ most_attributes)
 IsReadAs wanted (Err fault.Spec) = wanted ≡ None
 IsReadAs wanted (Err fault.TooMany) =
-    (t : Specification) × (wanted ≡ Some t) × (64 < length t.attributes)
+    (t : Specification) × (wanted ≡ Some t) × (most_attributes < length t.attributes)
 IsReadAs wanted (Err fault.NoMemory) = Unit {0}

@@ -4,6 +4,8 @@ use Rattle.std.specs.Prelude.{if◌then◌else◌, List, [], ◌∷◌, length, 
 use Rattle.std.specs.Prelude.{slice_get, Option, Some, None, option_and_then, unwrap_or}
 use Rattle.std.specs.List.{list_all}
 use Rattle.std.specs.Char.{is_ascii_digit}
+use Rattle.gm_base.specs.Ascii.{next_digit}
+use Rattle.gm_base.specs.Ascii.{digit_zero}
 use Rattle.gm_calendar.specs.declared.period.Period.{Period}
 use Rattle.gm_calendar.specs.declared.period.Period.TheVariants.{Day, Week, Month, Year}
 use Rattle.gm_types.specs.declared.attribute.Attribute.{Attribute}
@@ -60,10 +62,7 @@ default_date_of t = date_named t (setting_of t (codes "geomesa.index.dtg"))
 -- the number that decimal digits without a leading zero write
 abbrev pub has_no_leading_zero : List ℕ → Bool
 has_no_leading_zero [] = false
-has_no_leading_zero (first ∷ rest) = not (first == 48) || (length rest == 0)
-
-abbrev pub next_digit : ℕ → ℕ → ℕ
-next_digit number byte = number * 10 + (byte - 48)
+has_no_leading_zero (first ∷ rest) = not (first == digit_zero) || (length rest == 0)
 
 abbrev pub number_of : List ℕ → Option ℕ
 number_of bytes =
@@ -89,8 +88,15 @@ period_from text =
     else if is_period_name Year text then Some Year
     else None
 
+-- the most attributes of a type
+abbrev pub most_attributes : ℕ
+most_attributes = 64
+
+abbrev pub most_shards : ℕ
+most_shards = 127
+
 abbrev pub is_shard_count : ℕ → Bool
-is_shard_count n = nat_le 1 n && nat_le n 127
+is_shard_count n = nat_le 1 n && nat_le n most_shards
 
 abbrev pub is_precision : ℕ → Bool
 is_precision n = n == 4 || n == 8 || n == 12 || n == 16

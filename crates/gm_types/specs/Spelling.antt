@@ -2,6 +2,7 @@
 use Rattle.std.specs.Prelude.{◌≡◌, ℕ, zero, suc, ◌+◌, Bool, true, false, not, ◌&&◌, ◌||◌, ◌==◌}
 use Rattle.std.specs.Prelude.{List, [], ◌∷◌, ◌++◌, map, Option, Some, None}
 use Rattle.std.specs.List.{list_all, join_with_byte}
+use Rattle.gm_base.specs.Ascii.{colon, comma, equals_sign, semicolon, single_quote, star}
 use Rattle.gm_types.specs.declared.attribute.Attribute.{Attribute}
 use Rattle.gm_types.specs.declared.attribute.AttributeOption.{AttributeOption}
 use Rattle.gm_types.specs.declared.datum.Datum.{Datum}
@@ -13,33 +14,33 @@ use Rattle.gm_types.specs.Words.{is_blank, is_bare, is_bare_form}
 
 -- `key=value`
 abbrev pub pair_text : AttributeOption → List ℕ
-pair_text option = option.key ++ (61 ∷ option.value)
+pair_text option = option.key ++ (equals_sign ∷ option.value)
 
 abbrev pub options_text : List AttributeOption → List ℕ
 options_text [] = []
-options_text (option ∷ options) = (58 ∷ pair_text option) ++ options_text options
+options_text (option ∷ options) = (colon ∷ pair_text option) ++ options_text options
 
 -- `name:type`, and `:key=value` for each option
 abbrev pub attribute_text : Attribute → List ℕ
 attribute_text attribute =
-    attribute.name ++ ((58 ∷ kind_name attribute.kind) ++ options_text attribute.options)
+    attribute.name ++ ((colon ∷ kind_name attribute.kind) ++ options_text attribute.options)
 
 abbrev pub star_text : Bool → List ℕ
-star_text true = 42 ∷ []
+star_text true = star ∷ []
 star_text false = []
 
 abbrev pub starred_text : Bool → Attribute → List ℕ
 starred_text star attribute = star_text star ++ attribute_text attribute
 
 abbrev pub quoted_text : List ℕ → List ℕ
-quoted_text value = 39 ∷ (value ++ 39 ∷ [])
+quoted_text value = single_quote ∷ (value ++ single_quote ∷ [])
 
 abbrev pub value_text : Bool → List ℕ → List ℕ
 value_text true value = quoted_text value
 value_text false value = value
 
 abbrev pub datum_text : Bool → Datum → List ℕ
-datum_text quoted datum = datum.key ++ (61 ∷ value_text quoted datum.value)
+datum_text quoted datum = datum.key ++ (equals_sign ∷ value_text quoted datum.value)
 
 -- an attribute as it is written, with blanks round it and a star or none
 pub record WrittenAttribute : Type 0 where
@@ -65,11 +66,11 @@ written_datum w = w.before ++ (datum_text w.quoted w.datum ++ w.after)
 -- there are any
 abbrev pub data_part : List (List ℕ) → List ℕ
 data_part [] = []
-data_part (text ∷ texts) = 59 ∷ join_with_byte 44 (text ∷ texts)
+data_part (text ∷ texts) = semicolon ∷ join_with_byte comma (text ∷ texts)
 
 abbrev pub written : List WrittenAttribute → List WrittenDatum → List ℕ
 written attributes given =
-    join_with_byte 44 (map written_attribute attributes) ++ data_part (map written_datum given)
+    join_with_byte comma (map written_attribute attributes) ++ data_part (map written_datum given)
 
 -- blanks alone stand round an attribute or a datum, and a value without quotes needs none
 abbrev pub has_blanks : WrittenAttribute → Bool
@@ -120,7 +121,7 @@ canonical_text t =
 -- texts with commas before all but the first
 abbrev pub comma_before : ℕ → List ℕ
 comma_before zero = []
-comma_before (suc place) = 44 ∷ []
+comma_before (suc place) = comma ∷ []
 
 abbrev pub separated : ℕ → List (List ℕ) → List ℕ
 separated place [] = []

@@ -5,6 +5,8 @@ use Rattle.std.specs.List.{list_all, list_any}
 use Rattle.std.specs.Char.{is_ascii_digit, is_ascii_alphabetic}
 use Rattle.std.specs.Cmp.Lexicographic.{pointwise}
 use Rattle.std.specs.Str.{is_utf8}
+use Rattle.gm_base.specs.Ascii.{colon, comma, decimal_point, equals_sign, minus_sign, semicolon}
+use Rattle.gm_base.specs.Ascii.{single_quote, space, tab, underscore}
 
 -- two texts are the same, byte by byte
 abbrev pub same_text : List ℕ → List ℕ → Bool
@@ -12,7 +14,7 @@ same_text = pointwise ◌==◌
 
 -- a letter or `_`
 abbrev pub begins_name : ℕ → Bool
-begins_name byte = is_ascii_alphabetic byte || byte == 95
+begins_name byte = is_ascii_alphabetic byte || byte == underscore
 
 -- a letter, a digit or `_`
 abbrev pub continues_name : ℕ → Bool
@@ -31,7 +33,7 @@ is_name bytes = has_name_form bytes
 
 -- a letter, a digit, `_`, `.` or `-`
 abbrev pub is_key_byte : ℕ → Bool
-is_key_byte byte = continues_name byte || byte == 46 || byte == 45
+is_key_byte byte = continues_name byte || byte == decimal_point || byte == minus_sign
 
 -- a key: one or more of these
 unfoldable pub is_key : List ℕ → Bool
@@ -39,11 +41,13 @@ is_key bytes = nat_le 1 (length bytes) && list_all is_key_byte bytes
 
 -- space and tab
 abbrev pub is_blank : ℕ → Bool
-is_blank byte = byte == 32 || byte == 9
+is_blank byte = byte == space || byte == tab
 
 -- a comma, a semicolon, a colon, a `=` or a single quote
 abbrev pub is_mark : ℕ → Bool
-is_mark byte = byte == 44 || byte == 59 || byte == 58 || byte == 61 || byte == 39
+is_mark byte =
+    byte == comma || byte == semicolon || byte == colon || byte == equals_sign
+    || byte == single_quote
 
 abbrev pub is_bare_byte : ℕ → Bool
 is_bare_byte byte = not (is_mark byte) && not (is_blank byte)
@@ -56,7 +60,7 @@ unfoldable pub is_bare : List ℕ → Bool
 is_bare bytes = is_bare_form bytes && is_utf8 bytes
 
 abbrev pub has_no_quote : List ℕ → Bool
-has_no_quote bytes = list_all (λ byte. not (byte == 39)) bytes
+has_no_quote bytes = list_all (λ byte. not (byte == single_quote)) bytes
 
 -- a value that may stand in quotes: it has none inside
 unfoldable pub is_quotable : List ℕ → Bool

@@ -1,4 +1,5 @@
 // The settings that user data give.
+ghost use Rattle.gm_base.specs.Ascii.{next_digit};
 ghost use Rattle.std.specs.Prelude.{◌≡◌, min, find, fold, codes};
 ghost use Rattle.std.specs.Char.{is_ascii_digit};
 ghost use Rattle.std.specs.List.{list_all};
@@ -48,7 +49,7 @@ fn are_digits(text: &[u8]) -> bool
 
 // The value of digits, or 1000 where it is more.
 fn digits_value(text: &[u8]) -> u32
-    ensures { result ≡ min (fold spec.next_digit 0 text.now) 1000 }
+    ensures { result ≡ min (fold next_digit 0 text.now) 1000 }
 {
     let mut value = 0u32;
     for byte in text {

@@ -7,6 +7,7 @@ use Rattle.std.specs.List.{list_all}
 use Rattle.std.specs.Char.{is_ascii_alphabetic, is_ascii_lowercase, to_ascii_lowercase}
 use Rattle.std.specs.Cmp.Lexicographic.{pointwise}
 use Rattle.std.proofs.lemmas.Bool.Decides.{nat_tests}
+use Rattle.gm_base.proofs.Lists.{take_drop}
 use Rattle.gm_geom.specs.declared.point.Point.{Point}
 use Rattle.gm_geom.specs.declared.geometry.Geometry.{Geometry}
 use Rattle.gm_geom.specs.declared.geometry.Geometry.TheVariants as geo
@@ -17,7 +18,7 @@ use Rattle.gm_wkt.specs.Grammar.{SpellsLine, SpellsRings, SpellsLoose, SpellsPos
 use Rattle.gm_wkt.specs.Grammar.{SpellsBody, SpellsText}
 use Rattle.gm_wkt.specs.Reader.{skip_blanks, Starts, Stops}
 use Rattle.gm_wkt.specs.Words.{letter_run, is_named, keyword_named}
-use Rattle.gm_wkt.proofs.Scans.{take_run, drop_run, take_drop, skip_over, skipped}
+use Rattle.gm_wkt.proofs.Scans.{take_run, drop_run, skip_over, skipped}
 
 lower_letter : (b c : ℕ) → to_ascii_lowercase b ≡ c → is_ascii_lowercase c ≡ true
     → is_ascii_alphabetic b ≡ true

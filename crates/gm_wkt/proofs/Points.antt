@@ -3,13 +3,14 @@ use Rattle.std.proofs.Common.{◌≡◌, ℕ, Bool, true, false, ◌==◌, cond,
 use Rattle.std.proofs.Common.{None, inl, inr, refl, sym, ap, ◌∙◌, subst, arith, eqb-true}
 use Rattle.std.specs.Option.{option_map, option_and_then}
 use Rattle.std.proofs.lemmas.Bool.Decides.{nat_tests}
+use Rattle.gm_base.proofs.Options.{map_some, then_some}
 use Rattle.gm_geom.specs.declared.point.Point.{Point}
 use Rattle.gm_geom.specs.Number.{is_number_byte}
 use Rattle.gm_wkt.specs.Grammar.{SpellsPosition, SpellsLone, SpellsMember}
 use Rattle.gm_wkt.specs.Reader.{skip_blanks, behind, position_at, closed_at, lone_inside, lone_at}
 use Rattle.gm_wkt.specs.Reader.{opens, point_at, SpellsPoint, Starts, Ends, Takes}
 use Rattle.gm_wkt.proofs.Scans.{skip_over, skipped, ends_behind, number_starts}
-use Rattle.gm_wkt.proofs.Positions.{map_some, then_some, position_found, position_only}
+use Rattle.gm_wkt.proofs.Positions.{position_found, position_only}
 use Rattle.gm_wkt.proofs.Positions.{position_starts}
 use Rattle.gm_wkt.proofs.Members.{list_found, list_at_front}
 

@@ -5,23 +5,15 @@ use Rattle.std.proofs.Common.{append_assoc}
 use Rattle.std.proofs.lemmas.Bool.{and_parts}
 use Rattle.std.specs.List.{list_all}
 use Rattle.std.specs.Option.{option_map, option_and_then}
+use Rattle.gm_base.proofs.Lists.{run_passes, take_drop}
+use Rattle.gm_base.proofs.Options.{map_some, then_some}
 use Rattle.gm_geom.specs.declared.point.Point.{Point}
 use Rattle.gm_geom.specs.Number.{is_number_byte}
 use Rattle.gm_wkt.specs.Grammar.{is_blank, AreBlanks, coordinate_of, SpellsNumber, SpellsPosition}
 use Rattle.gm_wkt.specs.Reader.{skip_blanks, number_run, number_at, begins_blank, second_at}
 use Rattle.gm_wkt.specs.Reader.{position_at, Starts, Ends, Takes}
-use Rattle.gm_wkt.proofs.Scans.{take_run, drop_run, run_passes, take_drop, skip_over, blank_gap}
+use Rattle.gm_wkt.proofs.Scans.{take_run, drop_run, skip_over, blank_gap}
 use Rattle.gm_wkt.proofs.Scans.{number_starts, blank_ends}
-
-pub map_some : {A B : Type 0} (f : A → B) (o : Option A) (b : B) → option_map f o ≡ Some b
-    → (a : A) × (o ≡ Some a) × (f a ≡ b)
-map_some f None b e = absurd (cc)
-map_some f (Some a) b e = (a, refl, cc)
-
-pub then_some : {A B : Type 0} (f : A → Option B) (o : Option A) (b : B)
-    → option_and_then f o ≡ Some b → (a : A) × (o ≡ Some a) × (f a ≡ Some b)
-then_some f None b e = absurd (cc)
-then_some f (Some a) b e = (a, refl, e)
 
 -- numbers
 number_found : (text : List ℕ) (r : ℤ × List ℕ) → number_at text ≡ Some r

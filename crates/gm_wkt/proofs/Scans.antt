@@ -4,6 +4,7 @@ use Rattle.std.proofs.Common.{◌∷◌, ◌++◌, length, take, drop, refl, sym
 use Rattle.std.proofs.lemmas.Bool.{and_parts}
 use Rattle.std.specs.List.{list_all, prefix_len}
 use Rattle.std.proofs.lemmas.Bool.Decides.{nat_tests}
+use Rattle.gm_base.proofs.Lists.{take_front, drop_front, passes_next, run_passes, take_drop}
 use Rattle.gm_geom.specs.Number.{is_number_byte}
 use Rattle.gm_wkt.specs.Grammar.{is_blank, AreBlanks}
 use Rattle.gm_wkt.specs.Reader.{skip_blanks, Stops, Ends, Starts, begins_blank}
@@ -18,14 +19,6 @@ run test (b ∷ bs) rest all stops =
     ap (λ t. cond t (1 + prefix_len test (bs ++ rest)) 0) each.0
     ∙ ap (λ n. 1 + n) (run test bs rest each.1 stops) ∙ omega arith
 
-take_front : (bs rest : List ℕ) → take (length bs) (bs ++ rest) ≡ bs
-take_front [] rest = refl
-take_front (b ∷ bs) rest = ap (λ t. b ∷ t) (take_front bs rest)
-
-drop_front : (bs rest : List ℕ) → drop (length bs) (bs ++ rest) ≡ rest
-drop_front [] rest = refl
-drop_front (b ∷ bs) rest = drop_front bs rest
-
 pub take_run : (test : ℕ → Bool) (bs rest : List ℕ) → list_all test bs ≡ true → Stops test rest
     → take (prefix_len test (bs ++ rest)) (bs ++ rest) ≡ bs
 take_run test bs rest all stops =
@@ -35,31 +28,6 @@ pub drop_run : (test : ℕ → Bool) (bs rest : List ℕ) → list_all test bs �
     → drop (prefix_len test (bs ++ rest)) (bs ++ rest) ≡ rest
 drop_run test bs rest all stops =
     ap (λ n. drop n (bs ++ rest)) (run test bs rest all stops) ∙ drop_front bs rest
-
--- what stands in front of the rest of a run passes the test
-passes_next : (test : ℕ → Bool) (b n : ℕ) (bytes : List ℕ) → test b ≡ true
-    → list_all test (take n bytes) ≡ true → list_all test (take (1 + n) (b ∷ bytes)) ≡ true
-passes_next test b n bytes passes rest =
-    rw (one_more n) (ap (λ t. t && list_all test (take n bytes)) passes ∙ rest)
-  where
-    one_more : (n : ℕ) → 1 + n ≡ suc n
-    one_more n = omega arith
-
-pub run_passes : (test : ℕ → Bool) (bytes : List ℕ)
-    → list_all test (take (prefix_len test bytes) bytes) ≡ true
-run_passes test [] = refl
-run_passes test (b ∷ bytes) =
-    elim (test b) as
-    (λ t. test b ≡ t
-    → list_all test (take (cond t (1 + prefix_len test bytes) 0) (b ∷ bytes)) ≡ true) [
-      | true ↦ λ e. passes_next test b (prefix_len test bytes) bytes e (run_passes test bytes)
-      | false ↦ λ e. refl
-    ] refl
-
-pub take_drop : (n : ℕ) (bytes : List ℕ) → bytes ≡ take n bytes ++ drop n bytes
-take_drop zero bytes = refl
-take_drop (suc n) [] = refl
-take_drop (suc n) (b ∷ bytes) = ap (λ t. b ∷ t) (take_drop n bytes)
 
 -- blanks before a byte that is none
 pub skip_over : (bs rest : List ℕ) → AreBlanks bs → Starts rest → skip_blanks (bs ++ rest) ≡ rest

@@ -4,6 +4,7 @@ use Rattle.std.proofs.Common.{length, map, take, drop, Option, Some, None, Resul
 use Rattle.std.proofs.Common.{sym, ap, ◌∙◌, subst, arith, append-nil, length-append}
 use Rattle.std.specs.Option.{option_map, option_and_then}
 use Rattle.std.specs.Char.{to_ascii_lowercase}
+use Rattle.gm_base.proofs.Options.{map_some, then_some}
 use Rattle.gm_geom.specs.declared.point.Point.{Point}
 use Rattle.gm_geom.specs.declared.geometry.Geometry.{Geometry}
 use Rattle.gm_geom.specs.declared.geometry.Geometry.TheVariants as geo
@@ -20,7 +21,6 @@ use Rattle.gm_wkt.specs.Answer.{IsAnswer, IsUnlessMemory, kept_or, judged, answe
 use Rattle.gm_wkt.specs.Words.{letter_run, keyword_named}
 use Rattle.gm_wkt.specs.Value.{Reader, member_then, members_at, list_at, if_last, whole, line_at}
 use Rattle.gm_wkt.specs.Value.{body_of, geometry_of}
-use Rattle.gm_wkt.proofs.Positions.{map_some, then_some}
 use Rattle.gm_wkt.proofs.Points.{point_found, point_only, lone_found, lone_only, behind_some}
 use Rattle.gm_wkt.proofs.Members.{member_item, member_found, list_at_front, list_found}
 use Rattle.gm_wkt.proofs.Keywords.{text_keyword, text_body, text_found}

@@ -3,6 +3,7 @@ use Rattle.std.specs.Prelude.{◌≡◌, ◌<◌, ◌⊎◌, ◌==◌, ◌||◌,
 use Rattle.std.specs.Prelude.{length, map, codes, Option, Some, None, Result, Ok, Err}
 use Rattle.std.specs.List.{list_all}
 use Rattle.std.specs.Char.{to_ascii_lowercase}
+use Rattle.gm_base.specs.Ascii.{space, tab, opening, closing, comma}
 use Rattle.gm_geom.specs.declared.point.Point.{Point}
 use Rattle.gm_geom.specs.declared.geometry.Geometry.{Geometry}
 use Rattle.gm_geom.specs.declared.geometry.Geometry.TheVariants as geo
@@ -11,26 +12,6 @@ use Rattle.gm_geom.specs.declared.number.NumberFault.TheVariants.{Form, Big}
 use Rattle.gm_wkt.specs.declared.keyword.Keyword.{Keyword}
 use Rattle.gm_wkt.specs.declared.keyword.Keyword.TheVariants as keyword
 use Rattle.gm_geom.specs.Number.{fixed_of, is_number_byte}
-
--- the bytes that a geometry is written with, beside letters and numbers
-abbrev pub space : ℕ
-space = 32
-
-abbrev pub tab : ℕ
-tab = 9
-
-abbrev pub opening : ℕ
-opening = 40
-
-abbrev pub closing : ℕ
-closing = 41
-
-abbrev pub comma : ℕ
-comma = 44
-
--- the end of a line, which no geometry is written with
-abbrev pub line_feed : ℕ
-line_feed = 10
 
 -- space and tab
 abbrev pub is_blank : ℕ → Bool

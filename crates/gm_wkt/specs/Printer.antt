@@ -7,7 +7,8 @@ use Rattle.gm_geom.specs.declared.point.Point.{Point}
 use Rattle.gm_geom.specs.declared.geometry.Geometry.{Geometry}
 use Rattle.gm_geom.specs.declared.geometry.Geometry.TheVariants as geo
 use Rattle.gm_geom.specs.Number.{fixed_text, is_number_byte}
-use Rattle.gm_wkt.specs.Grammar.{space, comma, opening, closing, keyword_text, keyword_of}
+use Rattle.gm_wkt.specs.Grammar.{keyword_text, keyword_of}
+use Rattle.gm_base.specs.Ascii.{space, comma, opening, closing}
 
 abbrev pub position_text : Point → List ℕ
 position_text p = fixed_text p.x ++ (space ∷ fixed_text p.y)

@@ -7,7 +7,7 @@ use Rattle.gm_geom.specs.declared.geometry.Geometry.{Geometry}
 use Rattle.gm_geom.specs.declared.geometry.Geometry.TheVariants as geo
 use Rattle.gm_wkt.specs.declared.keyword.Keyword.{Keyword}
 use Rattle.gm_wkt.specs.declared.keyword.Keyword.TheVariants as keyword
-use Rattle.gm_wkt.specs.Grammar.{opening}
+use Rattle.gm_base.specs.Ascii.{opening}
 use Rattle.gm_wkt.specs.Reader.{skip_blanks, behind, point_at, lone_at, separator_at}
 use Rattle.gm_wkt.specs.Words.{letter_run, keyword_named}
 

@@ -7,7 +7,8 @@ ghost use Rattle.gm_geom.specs.declared.geometry.Geometry.TheVariants as geo;
 ghost use Rattle.gm_geom.specs.declared.point.Point.{Point};
 ghost use Rattle.gm_geom.specs.Validity.{fault_of};
 ghost use Rattle.gm_wkt.specs.Answer.{answer_of};
-ghost use Rattle.gm_wkt.specs.Grammar.{SpellsText, line_feed};
+ghost use Rattle.gm_wkt.specs.Grammar.{SpellsText};
+ghost use Rattle.gm_base.specs.Ascii.{line_feed};
 ghost use Rattle.gm_wkt.specs.Printer.{printed, is_point_byte};
 ghost use Rattle.gm_wkt.specs.Value.{geometry_of};
 

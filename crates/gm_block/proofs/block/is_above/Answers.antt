@@ -3,14 +3,10 @@ use Rattle.std.specs.Ordering.{nat_cmp, is_lt}
 use Rattle.std.specs.Cmp.Lexicographic.{slice_cmp}
 use Rattle.std.specs.declared.cmp.Ordering.{Ordering}
 use Rattle.std.specs.declared.cmp.Ordering.TheVariants.{Less, Equal, Greater}
+use Rattle.gm_base.proofs.Numbers.{less_of}
 use Rattle.gm_block.specs.Block.{IsAbove}
 use Rattle.gm_block.proofs.Rising.{above-last, last-above}
 use Rattle.gm_block.proofs.block.is_above.Goals as goal
-
-less : (r : Ordering) → is_lt r ≡ true → r ≡ Less
-less Less is = refl
-less Equal is = cc
-less Greater is = cc
 
 pub returns-in-Some : goal.returns-in-Some
 returns-in-Some c =
@@ -23,7 +19,7 @@ returns-in-Some c =
     ∙ ap is_lt (c.cmp.ensures
     ∙ ap (λ bytes. slice_cmp nat_cmp bytes key) c.as_slice.ensures) in (
       λ yes. subst (λ rows. IsAbove rows key) (sym parts)
-          (above-last front last key (less _ (sym told ∙ yes))),
+          (above-last front last key (less_of _ (sym told ∙ yes))),
       λ above. told ∙ ap is_lt
           (last-above front last key (subst (λ rows. IsAbove rows key) parts above)),
     )

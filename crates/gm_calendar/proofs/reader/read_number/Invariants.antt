@@ -1,7 +1,7 @@
 use Rattle.std.proofs.Common.{◌≡◌, ◌^◌, ◌<◌, true, fold, take}
 use Rattle.std.specs.Char.{is_ascii_digit}
 use Rattle.std.specs.List.{list_all}
-use Rattle.gm_calendar.specs.Spelling.{next_digit}
+use Rattle.gm_base.specs.Ascii.{next_digit}
 use Rattle.gm_calendar.proofs.reader.read_number.Given as goal
 
 abbrev pub invariant-loop-digit : goal.invariant-loop-digit

@@ -1,6 +1,7 @@
 use Rattle.std.proofs.Common.{arith, ◌^◌, ◌<◌}
 use Rattle.std.specs.String.{string_bytes}
-use Rattle.gm_geom.proofs.Pieces.{last_digit, only_digit, on_ok}
+use Rattle.gm_base.proofs.Options.{on_ok}
+use Rattle.gm_geom.proofs.Pieces.{last_digit, only_digit}
 use Rattle.gm_geom.proofs.printing.+append_whole.Goals as goal
 
 pub returns-then-whole-lt10-clause-text : goal.returns-then-whole-lt10-clause-text

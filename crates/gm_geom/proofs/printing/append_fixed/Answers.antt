@@ -2,8 +2,9 @@ use Rattle.std.proofs.Common.{◌≡◌, ◌++◌, ◌/◌, ◌%◌, rules}
 use Rattle.std.specs.Prelude.{unsigned_abs, OnOk}
 use Rattle.std.specs.String.{string_bytes}
 use Rattle.std.specs.Fmt.{decimal}
+use Rattle.gm_base.proofs.Options.{on_ok}
 use Rattle.gm_geom.specs.Number.{fraction_text, minus_text, degree}
-use Rattle.gm_geom.proofs.Pieces.{three_pieces, on_ok}
+use Rattle.gm_geom.proofs.Pieces.{three_pieces}
 use Rattle.gm_geom.proofs.printing.append_fixed.Goals as goal
 
 pub returns-clause-text : goal.returns-clause-text

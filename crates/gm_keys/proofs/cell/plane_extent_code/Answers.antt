@@ -1,8 +1,8 @@
 use Rattle.std.proofs.Common.{ap, sym, subst, ◌∙◌, ◌≤◌, ℕ, [], ◌∷◌, refl, inl, lit<}
+use Rattle.gm_base.proofs.Numbers.{two_below}
 use Rattle.gm_curve.specs.Xz.{xz_code}
 use Rattle.gm_keys.specs.Cell.{xz2_code, longitude_cell, latitude_cell}
 use Rattle.gm_keys.proofs.Cells.{same_x, same_y, longitude_rises, latitude_rises, two_at_most}
-use Rattle.gm_keys.proofs.Cells.{two_below}
 use Rattle.gm_keys.proofs.cell.plane_extent_code.Goals as goal
 
 pub code-requires : goal.code-requires

@@ -1,8 +1,8 @@
 use Rattle.std.proofs.Common.{ap, sym, subst, ◌∙◌, ◌≤◌, ℕ, [], ◌∷◌, refl, inr, lit<, le_refl}
+use Rattle.gm_base.proofs.Numbers.{three_below}
 use Rattle.gm_curve.specs.Xz.{xz_code}
 use Rattle.gm_keys.specs.Cell.{xz3_code, longitude_cell, latitude_cell}
 use Rattle.gm_keys.proofs.Cells.{same_x, same_y, longitude_rises, latitude_rises, three_at_most}
-use Rattle.gm_keys.proofs.Cells.{three_below}
 use Rattle.gm_keys.proofs.cell.space_extent_code.Goals as goal
 
 pub code-requires : goal.code-requires

@@ -1,6 +1,7 @@
 use Rattle.std.proofs.Common.{◌≡◌, true, sym, ◌∙◌, ◌++◌}
+use Rattle.gm_base.proofs.Options.{same_some, none_some}
 use Rattle.gm_types.specs.Index.{has_index}
-use Rattle.gm_keys.proofs.Layouts.{id_found, same_some, none_some}
+use Rattle.gm_keys.proofs.Layouts.{id_found}
 use Rattle.gm_keys.proofs.layout.id_of.Goals as goal
 
 pub returns-in_err-rest-clause-only : goal.returns-in_err-rest-clause-only

@@ -1,8 +1,9 @@
 use Rattle.std.proofs.Common.{◌+◌, ◌-◌, ◌++◌, take, drop, sym, ap, ◌∙◌, arith}
+use Rattle.gm_base.proofs.Lists.{rest_whole}
 use Rattle.gm_program.specs.Lines.{complete_from, partial_from, cut}
 use Rattle.gm_program.specs.Machine.{after}
 use Rattle.gm_program.proofs.Cutting.{none_from, part_inside, part_whole_line, part_and_rest}
-use Rattle.gm_program.proofs.Cutting.{part_fits, rest_all, complete_from-all, partial_from-all}
+use Rattle.gm_program.proofs.Cutting.{part_fits, complete_from-all, partial_from-all}
 use Rattle.gm_program.proofs.Streaming.{serves_none, serves_more, part_more, held_more, part_all}
 use Rattle.gm_program.proofs.serve.serve_piece.Goals as goal
 
@@ -77,7 +78,7 @@ returns-clause-held g c = λ start is.
     let piece = c.args.piece.now in
     c.in_default-hold.ensures (partial_from start (take at piece))
     (c.loop-length.invariant.held start is)
-    ∙ ap (λ rest. cut (partial_from start (take at piece) ++ rest)) (rest_all piece at)
+    ∙ ap (λ rest. cut (partial_from start (take at piece) ++ rest)) (rest_whole piece at)
     ∙ sym (ap cut (partial_from-all start at piece (none_from piece at c.in_default.ensures)))
 
 pub returns-clause-kept : goal.returns-clause-kept

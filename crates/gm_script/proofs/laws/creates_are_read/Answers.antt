@@ -2,6 +2,7 @@ use Rattle.std.proofs.Common.{◌≡◌, ◌≤◌, List, refl, ap, ◌∙◌, i
 use Rattle.std.proofs.Common.{Ok}
 use Rattle.std.specs.Prelude.{codes, if◌then◌else◌, ◌&&◌, ◌⊎◌, is_some, nat_lt}
 use Rattle.std.proofs.lemmas.Bool.{lt-ltb, le-ltb}
+use Rattle.gm_base.proofs.Booleans.{and_false}
 use Rattle.gm_base.specs.declared.code.Code.TheVariants.{E05, E19}
 use Rattle.gm_types.specs.Reader.{specification_of}
 use Rattle.gm_types.specs.Specification.{Specification}
@@ -10,10 +11,6 @@ use Rattle.gm_script.proofs.LaidLines.{read_laid}
 use Rattle.gm_script.specs.Order as order
 use Rattle.gm_script.specs.Reading.{create_of, create_from, create_type, refused}
 use Rattle.gm_script.proofs.laws.creates_are_read.Goals as goal
-
-and_false : (b : Bool) → (b && false) ≡ false
-and_false true = refl
-and_false false = refl
 
 no_room : (types : List Specification) (t : Specification)
     → ((100 ≤ length types) ⊎ (65 ≤ length t.attributes))

@@ -1,10 +1,11 @@
 use Rattle.std.proofs.Common.{◌≡◌, ◌<◌, ℕ, List, [], ◌∷◌, refl, ap, ◌∙◌, inl, inr, false, not, ◌||◌}
 use Rattle.std.proofs.Common.{length, arith, Ok}
 use Rattle.std.specs.Prelude.{codes, if◌then◌else◌, ◌⊎◌}
+use Rattle.gm_base.proofs.Booleans.{or_true}
 use Rattle.gm_base.specs.declared.code.Code.TheVariants.{E04}
 use Rattle.gm_types.specs.Specification.{Specification}
 use Rattle.gm_types.specs.Words.{is_name}
-use Rattle.gm_script.proofs.FormedLines.{or_true, no_type, its_type}
+use Rattle.gm_script.proofs.FormedLines.{no_type, its_type}
 use Rattle.gm_script.proofs.LaidLines.{read_laid}
 use Rattle.gm_script.specs.Reading.{describe_of, on_type, type_named, refused, Given}
 use Rattle.gm_script.specs.Order as order

@@ -4,6 +4,7 @@ use Rattle.std.specs.Prelude.{codes, if◌then◌else◌, length}
 use Rattle.std.specs.List.{list_any}
 use Rattle.std.specs.Str.{is_utf8}
 use Rattle.std.proofs.lemmas.Bool.{lt-ltb}
+use Rattle.gm_base.proofs.Booleans.{neither_of}
 use Rattle.gm_base.specs.declared.code.Code.TheVariants.{E01, E02, E03}
 use Rattle.gm_types.specs.Specification.{Specification}
 use Rattle.gm_types.specs.Words.{same_text}
@@ -29,10 +30,6 @@ silent types text line h e =
     ∙ ap (λ b. if b then Ok order.nothing else if is_utf8 text then command_in types text
     else refused E02) e
 
-or_none : (a b : Bool) → (a || b) ≡ false → (a ≡ false) × (b ≡ false)
-or_none true b e = absurd (cc)
-or_none false b e = (refl, e)
-
 skip : {R : Type 0} (b : Bool) (x y : R) → b ≡ false → (if b then x else y) ≡ y
 skip b x y e = ap (λ b. if b then x else y) e
 
@@ -40,15 +37,15 @@ none_of : (types : List Specification) (word name rest : List ℕ)
     → list_any (same_text word) command_words ≡ false
     → command_of types word name rest ≡ refused E03
 none_of types word name rest e =
-    let a = or_none (same_text word (codes "create")) _ e in
-    let b = or_none (same_text word (codes "put")) _ a.1 in
-    let c = or_none (same_text word (codes "delete")) _ b.1 in
-    let d = or_none (same_text word (codes "remove")) _ c.1 in
-    let f = or_none (same_text word (codes "modify")) _ d.1 in
-    let g = or_none (same_text word (codes "query")) _ f.1 in
-    let h = or_none (same_text word (codes "count")) _ g.1 in
-    let i = or_none (same_text word (codes "explain")) _ h.1 in
-    let j = or_none (same_text word (codes "describe")) _ i.1 in
+    let a = neither_of (same_text word (codes "create")) _ e in
+    let b = neither_of (same_text word (codes "put")) _ a.1 in
+    let c = neither_of (same_text word (codes "delete")) _ b.1 in
+    let d = neither_of (same_text word (codes "remove")) _ c.1 in
+    let f = neither_of (same_text word (codes "modify")) _ d.1 in
+    let g = neither_of (same_text word (codes "query")) _ f.1 in
+    let h = neither_of (same_text word (codes "count")) _ g.1 in
+    let i = neither_of (same_text word (codes "explain")) _ h.1 in
+    let j = neither_of (same_text word (codes "describe")) _ i.1 in
     skip (same_text word (codes "create")) (create_of types name rest) _ a.0
     ∙ skip (same_text word (codes "put")) (put_of types name rest) _ b.0
     ∙ skip (same_text word (codes "delete")) (delete_of types name rest) _ c.0

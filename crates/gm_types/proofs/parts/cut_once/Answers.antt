@@ -1,4 +1,5 @@
-use Rattle.gm_types.proofs.Cuts.{cut_none, cut_some, rest_whole}
+use Rattle.gm_base.proofs.Lists.{rest_whole}
+use Rattle.gm_types.proofs.Cuts.{cut_none, cut_some}
 use Rattle.gm_types.proofs.parts.cut_once.Goals as goal
 
 pub returns-then-len-text-clause-cut : goal.returns-then-len-text-clause-cut

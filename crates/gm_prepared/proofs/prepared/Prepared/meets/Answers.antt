@@ -1,7 +1,7 @@
 use Rattle.std.proofs.Common.{ap, ◌∙◌}
+use Rattle.gm_base.proofs.Booleans.{fails_with}
 use Rattle.gm_shapes.specs.Segment.{do_overlap}
 use Rattle.gm_shapes.specs.Meeting.{do_intersect}
-use Rattle.gm_prepared.proofs.Meets.{fails_with}
 use Rattle.gm_prepared.proofs.prepared.Prepared.meets.Goals as goal
 
 pub returns-else-do_overlap : goal.returns-else-do_overlap

@@ -2,12 +2,13 @@ use Rattle.std.proofs.Common.{◌≡◌, ap, ◌∙◌, arith}
 use Rattle.std.proofs.lemmas.Int.{ints}
 use mir.Val.{to_z, of_z}
 use Rattle.std.specs.Int.{w32}
+use Rattle.gm_base.proofs.Booleans.{fails_with}
 use Rattle.gm_geom.specs.declared.point.Box2.{Box2}
 use Rattle.gm_shapes.specs.Segment.{box_of, do_overlap, do_meet}
 use Rattle.gm_shapes.specs.Edge.{meets_edge_of}
 use Rattle.gm_prepared.proofs.Between.{between_meeting}
 use Rattle.gm_prepared.proofs.Numbered.{any_numbered}
-use Rattle.gm_prepared.proofs.Meets.{between_same, fails_with}
+use Rattle.gm_prepared.proofs.Meets.{between_same}
 use Rattle.gm_prepared.proofs.prepared.PreparedShape.meets.Goals as goal
 
 pub any_between-requires : goal.any_between-requires

@@ -1,4 +1,5 @@
 use Rattle.std.proofs.Common.{◌≡◌, ◌∙◌, IfOk, ℕ, sym, ap, subst}
+use Rattle.gm_base.proofs.Options.{same_some}
 use Rattle.gm_filter.specs.Suitability.{Suits}
 use Rattle.gm_filter.specs.Tree.{Tree, tree}
 use Rattle.gm_types.specs.Specification.{Specification}
@@ -6,7 +7,6 @@ use Rattle.gm_script.specs.Order.{Asked}
 use Rattle.gm_program.specs.Matched.{MayTake}
 use Rattle.gm_program.specs.Serve.{Executes}
 use Rattle.gm_program.specs.Step.{plain, modify_step}
-use Rattle.gm_program.proofs.Bound.{same_some}
 use Rattle.gm_program.proofs.Changing.{type_there, read_known}
 use Rattle.gm_program.proofs.Planned.{type_of}
 use Rattle.gm_program.proofs.execute.modify.modify.Goals as goal

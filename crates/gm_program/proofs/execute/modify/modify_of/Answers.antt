@@ -1,4 +1,5 @@
 use Rattle.std.proofs.Common.{◌≡◌, ◌∙◌, ◌+◌, not, List, map, length, nat_le, sym, ap, subst}
+use Rattle.gm_base.proofs.Booleans.{true_of_not, false_of_not}
 use Rattle.gm_filter.specs.Tree.{tree}
 use Rattle.gm_engine_rows.specs.declared.exchange.Exchange.{Exchange}
 use Rattle.gm_engine_rows.specs.Exchange.{exchanged_in, old_keys}
@@ -8,7 +9,6 @@ use Rattle.gm_program.specs.Limits.{has_too_many_rows}
 use Rattle.gm_program.specs.Matched.{IsAnswer, IsMatched}
 use Rattle.gm_program.specs.Question.{answer}
 use Rattle.gm_program.specs.Step.{plain, given, modified}
-use Rattle.gm_program.proofs.Changing.{true_from_not, false_from_not}
 use Rattle.gm_program.proofs.Exchanging.{refused_plain, exchanges_fit, exchanges_apart}
 use Rattle.gm_program.proofs.Giving.{having, gives_value, features_fit, room_told, modify_full}
 use Rattle.gm_program.proofs.Giving.{modify_reply}
@@ -138,7 +138,7 @@ returns-then-not-room g c = λ s types holds typed.
     c.in_ok-room-in-Features.ensures
     ∙ ap (λ (es : List Exchange). nat_le (c.count.result + c.len.result)
     (2000000 + length (old_keys t es))) again ∙ room in
-    let many = true_from_not
+    let many = true_of_not
     (has_too_many_rows
     (exchanged_in t.number (map (given place v) (answer t.number wanted s)) s))
     (sym told ∙ c.if-not-room.true) in
@@ -175,7 +175,7 @@ returns-in_ok-apply-in-Features g c = λ s types holds typed.
     c.in_ok-room-in-Features.ensures
     ∙ ap (λ (es : List Exchange). nat_le (c.count.result + c.len.result)
     (2000000 + length (old_keys t es))) again ∙ room in
-    let few = false_from_not
+    let few = false_of_not
     (has_too_many_rows
     (exchanged_in t.number (map (given place v) (answer t.number wanted s)) s))
     (sym told ∙ c.if-not-room.false) in

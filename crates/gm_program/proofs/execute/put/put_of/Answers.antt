@@ -2,6 +2,7 @@ use Rattle.std.proofs.Common.{◌≡◌, ◌∙◌, length, not, Option, Some, N
 use Rattle.std.proofs.Common.{subst}
 use Rattle.std.specs.Prelude.{Bool, true, false, if◌then◌else◌}
 use Rattle.std.specs.Option.{option_copied}
+use Rattle.gm_base.proofs.Booleans.{true_of_not, false_of_not}
 use Rattle.gm_base.specs.Counter.{capped_sum}
 use Rattle.gm_base.specs.declared.code.Code.TheVariants.{E19}
 use Rattle.gm_engine_rows.specs.State.{feature_at, changed_in}
@@ -11,7 +12,7 @@ use Rattle.gm_program.specs.Limits.{has_too_many_rows}
 use Rattle.gm_program.specs.Serve.{Executes}
 use Rattle.gm_program.specs.Step.{refused, row_of_one}
 use Rattle.gm_program.proofs.Changing.{holds_changed, rows_after, has_room_as_told, few_from_room}
-use Rattle.gm_program.proofs.Changing.{held_itself, length-puts, true_from_not, false_from_not}
+use Rattle.gm_program.proofs.Changing.{held_itself, length-puts}
 use Rattle.gm_program.proofs.execute.put.put_of.Goals as goal
 
 pub returns-then-not-branch : goal.returns-then-not-branch
@@ -30,7 +31,7 @@ returns-then-not-branch g c = λ s types holds typed.
     same (c.count.ensures ∙ ap length holds.same_rows)
     (c.len.ensures ∙ ap length c.in_ok-batch.ensures.puts ∙ length-puts t f) in
     let many : has_too_many_rows next ≡ true =
-    true_from_not (has_too_many_rows next)
+    true_of_not (has_too_many_rows next)
     (sym room ∙ sym c.in_ok-has_room.ensures ∙ c.if-not-branch.true) in
     subst (λ (b : Bool). Executes
     (if b then refused s E19 (row_of_one (feature_at n f.id s))
@@ -68,7 +69,7 @@ returns g c = λ s types holds typed.
     same2 (c.count.ensures ∙ ap length holds.same_rows)
     (c.len.ensures ∙ ap length c.in_ok-batch.ensures.puts ∙ length-puts t f) in
     let few : has_too_many_rows next ≡ false =
-    false_from_not (has_too_many_rows next)
+    false_of_not (has_too_many_rows next)
     (sym room ∙ sym c.in_ok-has_room.ensures ∙ c.if-not-branch.false) in
     let after : now ≡ rows_of next =
     rows_after c.rows_follow_a_change.ensures c.same_at_each_key.ensures

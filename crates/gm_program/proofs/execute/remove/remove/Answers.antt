@@ -1,11 +1,11 @@
 use Rattle.std.proofs.Common.{◌≡◌, ◌∙◌, IfOk, ℕ, sym, ap, subst}
+use Rattle.gm_base.proofs.Options.{same_some}
 use Rattle.gm_filter.specs.Suitability.{Suits}
 use Rattle.gm_filter.specs.Tree.{Tree, tree}
 use Rattle.gm_types.specs.Specification.{Specification}
 use Rattle.gm_script.specs.Order.{Asked}
 use Rattle.gm_program.specs.Serve.{Executes}
 use Rattle.gm_program.specs.Step.{plain, remove_step}
-use Rattle.gm_program.proofs.Bound.{same_some}
 use Rattle.gm_program.proofs.Changing.{type_there, read_known}
 use Rattle.gm_program.proofs.Planned.{type_of}
 use Rattle.gm_program.proofs.execute.remove.remove.Goals as goal

@@ -1,8 +1,9 @@
 use Rattle.std.proofs.Common.{◌≡◌, Option, Some, None, sym, ap, ◌∙◌}
+use Rattle.gm_base.proofs.Options.{same_some}
 use Rattle.gm_geom.specs.declared.geometry.Geometry.{Geometry}
 use Rattle.gm_shapes.specs.Meeting.{do_intersect}
 use Rattle.gm_shapes.specs.Segment.{do_overlap}
-use Rattle.gm_scan.proofs.Apart.{fails_with, some_is}
+use Rattle.gm_scan.proofs.Apart.{fails_with}
 use Rattle.gm_scan.proofs.target.Target.meets_stored.Goals as goal
 
 pub returns-then-not-do_overlap : goal.returns-then-not-do_overlap
@@ -17,7 +18,7 @@ returns-in-Some c = λ g is.
     let h = c.args.self.now.prepared in
     c.meets.ensures
     ∙ ap (λ (other : Geometry). do_intersect h other)
-    (some_is c.in-Some.geometry g
+    (same_some c.in-Some.geometry g
     (sym c.in-Some.is ∙ c.in_ok-geometry.ensures.only g is.kept is.same))
     ∙ c.meeting_is_symmetric.ensures h g
 

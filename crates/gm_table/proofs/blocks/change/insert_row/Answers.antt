@@ -1,8 +1,9 @@
 use Rattle.std.proofs.Common.{◌≡◌, List, [], ◌∷◌, ◌++◌, subst, sym, ap, ◌∙◌}
 use Rattle.std.specs.List.{insert}
+use Rattle.gm_base.proofs.Options.{on_ok}
 use Rattle.gm_table.specs.declared.blocks.block.Block.{Block}
 use Rattle.gm_table.specs.Blocks.{pair_of, rows_at, rows_until}
-use Rattle.gm_table.proofs.BlockChanges.{both_sides, end_behind, on_ok, on_err, set_more, set_same}
+use Rattle.gm_table.proofs.BlockChanges.{both_sides, end_behind, on_err, set_more, set_same}
 use Rattle.gm_table.proofs.blocks.change.insert_row.Goals as goal
 
 pub returns-then-begins_block-clause-ok : goal.returns-then-begins_block-clause-ok

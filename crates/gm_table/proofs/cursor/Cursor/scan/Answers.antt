@@ -4,13 +4,14 @@ use Rattle.std.specs.Ordering.{nat_cmp, is_le, is_gt}
 use Rattle.std.specs.Cmp.Lexicographic.{slice_cmp}
 use Rattle.std.proofs.lemmas.Result.{err_from_is_err_and}
 use Rattle.std.proofs.lemmas.Grind.{common_steps}
+use Rattle.gm_base.proofs.Numbers.{le_of_not_gt}
 use Rattle.gm_base.specs.Counter.{capped_sum}
 use Rattle.gm_base.specs.Tally.{tally_number}
 use Rattle.gm_table.specs.Sorted.{between}
 use Rattle.gm_table.specs.Cursor.{pending, rows_below, rows_after, IsLastOf}
 use Rattle.gm_table.specs.Visit.{Handed, Stops}
 use Rattle.gm_table.proofs.Between.{between-backwards}
-use Rattle.gm_table.proofs.Places.{below-is, after-is, clear-none, up_to, from-last}
+use Rattle.gm_table.proofs.Places.{below-is, after-is, clear-none, from-last}
 use Rattle.gm_table.proofs.cursor.Cursor.scan.Goals as goal
 
 -- no row up to the high end
@@ -79,7 +80,7 @@ returns-in_err-self-clause-stopped g c =
 pub returns-clause-at : goal.returns-clause-at
 returns-clause-at g c =
     let up : is_le (slice_cmp nat_cmp c.args.low.now c.args.high.now) ≡ true =
-    up_to _ (grind (arith, common_steps)) in
+    le_of_not_gt _ (grind (arith, common_steps)) in
     c.in_ok-self.ensures.after ∙ ap (rows_after c.args.high.now) c.reach.ensures
     ∙ after-is c.args.low.now c.args.high.now c.args.map.now.entries up c.requires.rising
 

@@ -2,7 +2,7 @@ use Rattle.std.proofs.Common.{◌≡◌, ◌++◌, ◌∷◌, [], List, ℕ, ap,
 use Rattle.std.specs.Prelude.{Result, Ok, Err, OnOk}
 use Rattle.std.specs.String.{string_bytes}
 use Rattle.gm_geom.specs.Number.{fixed_text}
-use Rattle.gm_wkt.specs.Grammar.{space}
+use Rattle.gm_base.specs.Ascii.{space}
 use Rattle.gm_wkt.proofs.printer.PointPrinted.append.Goals as goal
 
 three_pieces : {T E : Type 0} (r : Result T E) (start a b c first second third : List ℕ)
