@@ -111,3 +111,8 @@ pub text_open : (bytes : List ℕ) (i : ℕ) (pending : Bool) → length bytes �
 text_open bytes i pending h p =
     ap (text_end i pending) (over bytes i h) ∙ text_nil i pending
     ∙ ap (λ t. cond t (Some (i - 1)) None) p
+
+-- what a turn of each loop makes of what is ahead
+pub ruleset number_turns = (number_more, number_here, number_over)
+
+pub ruleset quote_turns = (text_turns, text_goes_on, text_here, text_over, text_open)

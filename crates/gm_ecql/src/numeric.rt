@@ -92,7 +92,7 @@ fn is_e(byte: u8) -> bool
     byte == b'e' || byte == b'E'
 }
 
-#[tactic(auto, using(crate::proofs::Scanned::number_more, crate::proofs::Scanned::number_here, crate::proofs::Scanned::number_over))]
+#[tactic(auto, using(crate::proofs::Scanned::number_turns))]
 fn number_end(bytes: &[u8]) -> usize
     ensures value { result ≡ spec.number_end 0 true bytes.now }
     ensures within { result ≤ length bytes.now }

@@ -58,7 +58,7 @@ fn text_token<'a>(text: &'a [u8], rest: &'a [u8]) -> Option<(Token<'a>, &'a [u8]
 }
 
 // The place of the closing quote.
-#[tactic(auto, using(crate::proofs::Scanned::text_turns, crate::proofs::Scanned::text_goes_on, crate::proofs::Scanned::text_here, crate::proofs::Scanned::text_over, crate::proofs::Scanned::text_open))]
+#[tactic(auto, using(crate::proofs::Scanned::quote_turns))]
 fn text_end(bytes: &[u8]) -> Option<usize>
     ensures value { result ≡ spec.text_end 0 false bytes.now }
     ensures within { IfSome result (λ n. n < length bytes.now) }

@@ -76,7 +76,8 @@ fn append_counts(script: &mut String) -> Result<(), NoMemory>
     append(script, "count gen target=1 BBOX(geom,-10,-10,10,10)\n")?;
     append(
         script,
-        "count gen BBOX(geom,-90,-45,90,45) AND dtg DURING 2020-03-01T00:00:00Z/2020-04-01T00:00:00Z\n",
+        "count gen BBOX(geom,-90,-45,90,45) AND dtg DURING \
+         2020-03-01T00:00:00Z/2020-04-01T00:00:00Z\n",
     )?;
     append(script, "count gen name = 'n7'\n")?;
     append(script, "count gen name = 'n7' OR IN ('g1','g2')\n")?;

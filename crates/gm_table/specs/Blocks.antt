@@ -3,7 +3,7 @@ use Rattle.std.specs.Prelude.{◌≡◌, ℕ, ◌<◌, ◌≤◌, zero, suc, Lis
 use Rattle.std.specs.Prelude.{map, slice_index_or}
 use Rattle.std.specs.declared.cmp.Ordering.TheVariants.{Less}
 use Rattle.std.specs.Cmp.Lexicographic.{slice_cmp}
-use Rattle.std.specs.List.{AllByRecursion}
+use Rattle.std.specs.List.{AllByRecursion, AllByRecursion-prop}
 use Rattle.std.specs.Map.{keys_of}
 use Rattle.std.specs.Ordering.{nat_cmp}
 use Rattle.std.specs.Coded.{×_prop, Unit-prop, le_prop, Coded-set, coded_ℕ}
@@ -11,7 +11,7 @@ use Rattle.gm_base.specs.Front.{AreBytes, IsFront, rest_of}
 use Rattle.gm_table.specs.declared.row.Row.{Row}
 use Rattle.gm_table.specs.declared.blocks.block.Block.{Block}
 use Rattle.gm_table.specs.Cursor.{rows_from}
-use Rattle.gm_table.specs.Sorted.{Rows}
+use Rattle.gm_table.specs.Sorted.{Rows, IsRising, IsRising-prop}
 
 -- a row as those who see a table have it
 abbrev pub pair_of : Row → List ℕ × List ℕ
@@ -60,6 +60,19 @@ IsBlock-prop block p q = λ i. record {
 
 abbrev pub lists_of : List Block → List (List Row)
 lists_of blocks = map (λ block. block.rows) blocks
+
+abbrev pub AreBlocks : List Block → Type 0
+AreBlocks blocks = AllByRecursion IsBlock blocks
+
+pub AreBlocks-prop : (blocks : List Block) → IsProp (AreBlocks blocks)
+AreBlocks-prop = AllByRecursion-prop IsBlock IsBlock-prop
+
+-- the keys of the rows of all blocks rise
+abbrev pub AreInOrder : List Block → Type 0
+AreInOrder blocks = IsRising (rows_of (lists_of blocks))
+
+pub AreInOrder-prop : (blocks : List Block) → IsProp (AreInOrder blocks)
+AreInOrder-prop blocks = IsRising-prop (rows_of (lists_of blocks))
 
 -- the rows of the block with that number from a row on
 abbrev pub rows_at : ℕ → ℕ → List Block → Rows

@@ -1,14 +1,14 @@
 // A table whose rows stand in blocks.
 ghost use Rattle.std.specs.Prelude.{◌≡◌, ◌<◌, ℕ, List, [], ◌∷◌, length, slice_index_or};
 ghost use Rattle.std.specs.Prelude.{OnOk, OnErr, IfOk, None, if◌then◌else◌};
-ghost use Rattle.std.specs.List.{AllByRecursion, AllByRecursion-prop};
 ghost use Rattle.std.specs.Ordering.{nat_cmp};
 ghost use Rattle.std.specs.Cmp.Lexicographic.{slice_cmp};
 ghost use Rattle.std.specs.BTreeMap.{is_at};
 ghost use Rattle.gm_table.specs.Batch.{put_at};
-ghost use Rattle.gm_table.specs.Blocks.{IsBlock, IsBlock-prop, IsSized, lists_of, rows_of};
+ghost use Rattle.gm_table.specs.Blocks.{AreBlocks, AreBlocks-prop, AreInOrder, AreInOrder-prop};
+ghost use Rattle.gm_table.specs.Blocks.{IsSized, lists_of, rows_of};
 ghost use Rattle.gm_table.specs.Changes.{restored_at};
-ghost use Rattle.gm_table.specs.Sorted.{IsRising, IsRising-prop, at_key};
+ghost use Rattle.gm_table.specs.Sorted.{at_key};
 
 use crate::blocks::batches::{put_rows, remove_keys};
 use crate::blocks::block::Block;
@@ -27,8 +27,8 @@ use std::ops::Range;
 pub struct BlockTable {
     list: Vec<Block>,
     count: u64,
-    ghost each: { AllByRecursion IsBlock list.items } by { AllByRecursion-prop IsBlock IsBlock-prop list.items },
-    ghost rising: { IsRising (rows_of (lists_of list.items)) } by { IsRising-prop (rows_of (lists_of list.items)) },
+    ghost each: { AreBlocks list.items } by { AreBlocks-prop list.items },
+    ghost rising: { AreInOrder list.items } by { AreInOrder-prop list.items },
     ghost counted: { count ≡ length (rows_of (lists_of list.items)) },
 }
 
