@@ -251,13 +251,13 @@ fn append_doubled(out: &mut String, raw: &str) -> Result<(), NoMemory>
     ensures { OnOk result (string_bytes out.new ≡ string_bytes out.old ++ doubled raw.now) }
 {
     'characters: for character in raw.chars() {
-        push_doubled(out, character)?;
+        append_character(out, character)?;
     }
     Ok(())
 }
 
 // A quote is written twice.
-fn push_doubled(out: &mut String, character: char) -> Result<(), NoMemory>
+fn append_character(out: &mut String, character: char) -> Result<(), NoMemory>
     ensures { OnOk result ((more : List ℕ)
         → string_bytes out.old ++ encode_utf8_all (doubled (character ∷ more))
         ≡ string_bytes out.new ++ encode_utf8_all (doubled more)) }

@@ -13,14 +13,14 @@ pub fn undouble(alloc: Global, raw: &str) -> Result<Text, NoMemory>
     let mut text = String::new(alloc);
     let mut behind = false;
     'characters: for character in raw.chars() {
-        behind = push_undoubled(&mut text, behind, character)?;
+        behind = append_undoubled(&mut text, behind, character)?;
     }
     Ok(Text::from_string(text))
 }
 
 // Writes the character, unless it is the second quote of a pair. The answer says whether the next
 // character stands behind a first one.
-fn push_undoubled(text: &mut String, behind: bool, character: char) -> Result<bool, NoMemory>
+fn append_undoubled(text: &mut String, behind: bool, character: char) -> Result<bool, NoMemory>
     ensures { IfOk result (λ later. (more : List ℕ)
         → string_bytes text.old ++ encode_utf8_all (undoubled_from behind (character ∷ more))
         ≡ string_bytes text.new ++ encode_utf8_all (undoubled_from later more)) }

@@ -38,8 +38,8 @@ pub fn append_row(alloc: Global, into: &mut String, feature: &Feature) -> Result
     ensures { IfOk result (λ _. string_bytes into.new
         ≡ string_bytes into.old ++ row_text feature.now) }
 {
-    push_field(into, feature.id.as_str())?;
-    push_values(alloc, into, feature.values.as_slice())
+    append_field(into, feature.id.as_str())?;
+    append_values(alloc, into, feature.values.as_slice())
 }
 
 /// The field that `print_row` gives this value.
@@ -47,18 +47,18 @@ pub fn print_field(alloc: Global, value: &Value) -> Result<Text, NoMemory>
     ensures { IfOk result (λ text. text ≡ printed (field_of value.now)) }
 {
     let mut field = String::new(alloc);
-    push_value(alloc, &mut field, value)?;
+    append_value(alloc, &mut field, value)?;
     Ok(Text::from_string(field))
 }
 
 // Each value behind a comma.
-fn push_values(alloc: Global, row: &mut String, values: &[Value]) -> Result<(), NoMemory>
+fn append_values(alloc: Global, row: &mut String, values: &[Value]) -> Result<(), NoMemory>
     ensures { IfOk result (λ _. string_bytes row.new
         ≡ string_bytes row.old ++ further (map field_of values.now)) }
 {
     'values: for value in values {
         row.push_str(",")?;
-        push_value(alloc, row, value)?;
+        append_value(alloc, row, value)?;
     }
     Ok(())
 }
@@ -69,39 +69,39 @@ pub(crate) fn truth_text(truth: bool) -> &'static str
     if truth { "true" } else { "false" }
 }
 
-fn push_value(alloc: Global, row: &mut String, value: &Value) -> Result<(), NoMemory>
+fn append_value(alloc: Global, row: &mut String, value: &Value) -> Result<(), NoMemory>
     ensures { IfOk result (λ _. string_bytes row.new
         ≡ string_bytes row.old ++ printed (field_of value.now)) }
 {
     match value {
-        Value::Null => push_field(row, ""),
-        Value::Text(text) => push_field(row, text.as_str()),
-        Value::Integer(number) => push_integer(row, *number),
-        Value::Long(number) => push_long(row, *number),
-        Value::Boolean(truth) => push_field(row, truth_text(*truth)),
+        Value::Null => append_field(row, ""),
+        Value::Text(text) => append_field(row, text.as_str()),
+        Value::Integer(number) => append_integer(row, *number),
+        Value::Long(number) => append_long(row, *number),
+        Value::Boolean(truth) => append_field(row, truth_text(*truth)),
         Value::Date(at) => {
             let text = print_instant(alloc, *at)?;
-            push_field(row, text.as_str())
+            append_field(row, text.as_str())
         }
-        Value::Geo(geometry) => push_geometry(alloc, row, geometry),
+        Value::Geo(geometry) => append_geometry(alloc, row, geometry),
     }
 }
 
-pub(crate) fn push_integer(row: &mut String, number: i32) -> Result<(), NoMemory>
+pub(crate) fn append_integer(row: &mut String, number: i32) -> Result<(), NoMemory>
     ensures { OnOk result (string_bytes row.new
         ≡ string_bytes row.old ++ printed (signed_decimal number)) }
 {
-    push_field(row, Buffer::new().format(number))
+    append_field(row, Buffer::new().format(number))
 }
 
-pub(crate) fn push_long(row: &mut String, number: i64) -> Result<(), NoMemory>
+pub(crate) fn append_long(row: &mut String, number: i64) -> Result<(), NoMemory>
     ensures { OnOk result (string_bytes row.new
         ≡ string_bytes row.old ++ printed (signed_decimal number)) }
 {
-    push_field(row, Buffer::new().format(number))
+    append_field(row, Buffer::new().format(number))
 }
 
-pub(crate) fn push_geometry(
+pub(crate) fn append_geometry(
     alloc: Global,
     row: &mut String,
     geometry: &Geometry,
@@ -110,15 +110,15 @@ pub(crate) fn push_geometry(
         ≡ string_bytes row.old ++ printed (wkt.printed geometry.now)) }
 {
     let text = print(alloc, geometry)?;
-    push_field(row, text.as_str())
+    append_field(row, text.as_str())
 }
 
-pub(crate) fn push_field(row: &mut String, field: &str) -> Result<(), NoMemory>
+pub(crate) fn append_field(row: &mut String, field: &str) -> Result<(), NoMemory>
     ensures { IfOk result (λ _. string_bytes row.new ≡ string_bytes row.old ++ printed field.now) }
 {
     if needs_quotes(field.as_bytes()) {
         row.push_str("\"")?;
-        push_doubled(row, field)?;
+        append_doubled(row, field)?;
         row.push_str("\"")?;
     } else {
         row.push_str(field)?;
@@ -127,7 +127,7 @@ pub(crate) fn push_field(row: &mut String, field: &str) -> Result<(), NoMemory>
 }
 
 // The text with each double quote twice.
-fn push_doubled(row: &mut String, text: &str) -> Result<(), NoMemory>
+fn append_doubled(row: &mut String, text: &str) -> Result<(), NoMemory>
     ensures { IfOk result (λ _. string_bytes row.new ≡ string_bytes row.old ++ doubled text.now) }
 {
     let mut rest = text;

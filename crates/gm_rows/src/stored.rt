@@ -9,7 +9,7 @@ ghost use Rattle.gm_geom.specs.declared.geometry.Geometry.{Geometry as AnyGeomet
 ghost use Rattle.gm_rows.specs.Printer.{printed, field_of, further, row_text};
 ghost use Rattle.gm_wkt.specs.Printer as wkt;
 
-use crate::printer::{push_field, push_geometry, push_integer, push_long, truth_text};
+use crate::printer::{append_field, append_geometry, append_integer, append_long, truth_text};
 use gm_base::NoMemory;
 use gm_calendar::{append_instant, instants_are_tested, printed_instants_are_read};
 use gm_feature::{
@@ -31,12 +31,16 @@ pub fn append_stored_row(
         → OnOk result (string_bytes into.new ≡ string_bytes into.old ++ row_text f) }
 {
     stored_texts_are_utf8();
-    push_text(into, stored.id())?;
-    push_stored_values(alloc, into, stored)
+    append_text(into, stored.id())?;
+    append_stored_values(alloc, into, stored)
 }
 
 // Each value behind a comma.
-fn push_stored_values(alloc: Global, row: &mut String, stored: &Stored<'_>) -> Result<(), NoMemory>
+fn append_stored_values(
+    alloc: Global,
+    row: &mut String,
+    stored: &Stored<'_>,
+) -> Result<(), NoMemory>
     ensures { (f : AnyFeature) → IsStored stored.now f → OnOk result (string_bytes row.new
         ≡ string_bytes row.old ++ further (map field_of f.values)) }
 {
@@ -45,13 +49,13 @@ fn push_stored_values(alloc: Global, row: &mut String, stored: &Stored<'_>) -> R
     let mut left = stored.values();
     'values: for _ in 0..count {
         row.push_str(",")?;
-        push_next(alloc, row, &mut left)?;
+        append_next(alloc, row, &mut left)?;
     }
     Ok(())
 }
 
 // The first value that is left. The arm for a geometry shows the prover all types of a value.
-fn push_next(alloc: Global, row: &mut String, left: &mut StoredValues<'_>) -> Result<(), NoMemory>
+fn append_next(alloc: Global, row: &mut String, left: &mut StoredValues<'_>) -> Result<(), NoMemory>
     ensures pushed { (first : AnyValue) (others : List AnyValue)
         → AreStored left.old (first ∷ others)
         → OnOk result (string_bytes row.new ≡ string_bytes row.old ++ printed (field_of first)) }
@@ -59,12 +63,12 @@ fn push_next(alloc: Global, row: &mut String, left: &mut StoredValues<'_>) -> Re
         → AreStored left.old (first ∷ others) → AreStored left.new others }
 {
     match left.next() {
-        StoredValue::Geometry(geometry) => push_stored_geometry(alloc, row, &geometry),
-        value => push_stored_value(alloc, row, &value),
+        StoredValue::Geometry(geometry) => append_stored_geometry(alloc, row, &geometry),
+        value => append_stored_value(alloc, row, &value),
     }
 }
 
-fn push_stored_value(
+fn append_stored_value(
     alloc: Global,
     row: &mut String,
     value: &StoredValue<'_>,
@@ -78,27 +82,27 @@ fn push_stored_value(
     stored_texts_are_utf8();
     match value {
         StoredValue::Null => Ok(()),
-        StoredValue::Text(text) => push_text(row, text),
-        StoredValue::Integer(number) => push_integer(row, *number),
-        StoredValue::Long(number) => push_long(row, *number),
-        StoredValue::Boolean(truth) => push_field(row, truth_text(*truth)),
+        StoredValue::Text(text) => append_text(row, text),
+        StoredValue::Integer(number) => append_integer(row, *number),
+        StoredValue::Long(number) => append_long(row, *number),
+        StoredValue::Boolean(truth) => append_field(row, truth_text(*truth)),
         StoredValue::Date(at) => append_instant(row, *at),
         StoredValue::Point(point) => append_point(row, point),
-        StoredValue::Geometry(geometry) => push_stored_geometry(alloc, row, geometry),
+        StoredValue::Geometry(geometry) => append_stored_geometry(alloc, row, geometry),
     }
 }
 
-fn push_text(row: &mut String, text: &[u8]) -> Result<(), NoMemory>
+fn append_text(row: &mut String, text: &[u8]) -> Result<(), NoMemory>
     ensures { IsUtf8 text.now → OnOk result
         (string_bytes row.new ≡ string_bytes row.old ++ printed text.now) }
 {
     match str::from_utf8(text) {
-        Ok(field) => push_field(row, field),
+        Ok(field) => append_field(row, field),
         Err(_) => Ok(()),
     }
 }
 
-fn push_stored_geometry(
+fn append_stored_geometry(
     alloc: Global,
     row: &mut String,
     stored: &StoredGeometry<'_>,
@@ -107,7 +111,7 @@ fn push_stored_geometry(
         (string_bytes row.new ≡ string_bytes row.old ++ printed (wkt.printed g)) }
 {
     match stored.decode(alloc)? {
-        Some(geometry) => push_geometry(alloc, row, &geometry),
+        Some(geometry) => append_geometry(alloc, row, &geometry),
         None => Ok(()),
     }
 }

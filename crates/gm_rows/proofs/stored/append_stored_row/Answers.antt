@@ -11,9 +11,9 @@ returns c = λ f is.
     let id = c.id.ensures f is in
     let utf8 = subst IsUtf8 (sym id)
     (c.stored_texts_are_utf8.ensures.identifier c.args.stored.now f is) in
-    let first : string_bytes c.push_text.new.row ≡ row ++ printed f.id =
-    c.in_ok-push_text.ensures utf8 ∙ ap (λ (t : List ℕ). row ++ printed t) id in
+    let first : string_bytes c.append_text.new.row ≡ row ++ printed f.id =
+    c.in_ok-append_text.ensures utf8 ∙ ap (λ (t : List ℕ). row ++ printed t) id in
     let rest = further (map field_of f.values) in
-    on_ok_weaker c.push_stored_values.result
+    on_ok_weaker c.append_stored_values.result
     (λ e. e ∙ ap (λ (t : List ℕ). t ++ rest) first ∙ append_assoc row (printed f.id) rest)
-    (c.push_stored_values.ensures f is)
+    (c.append_stored_values.ensures f is)

@@ -12,7 +12,7 @@ use Rattle.gm_wkt.specs.Printer as wkt
 use Rattle.gm_rows.specs.Printer.{printed, field_of}
 use Rattle.gm_rows.proofs.Pushing.{pushed_as}
 use Rattle.gm_rows.proofs.Unquoted.{unquoted}
-use Rattle.gm_rows.proofs.stored.push_stored_value.Goals as goal
+use Rattle.gm_rows.proofs.stored.append_stored_value.Goals as goal
 
 pub returns-in-Null : goal.returns-in-Null
 returns-in-Null c = λ v says sound.
@@ -25,8 +25,8 @@ returns-in-Text c = λ v says sound.
     let text = c.in-Text.text.now in
     let is : v ≡ value.Text text = rw c.in-Text.is at says in
     let utf8 = c.stored_texts_are_utf8.ensures.text text (ap is_sound (sym is) ∙ sound) in
-    pushed_as c.push_text.result (string_bytes c.args.row.now) (string_bytes c.push_text.new.row)
-    (printed text) v (value.Text text) is refl (c.push_text.ensures utf8)
+    pushed_as c.append_text.result (string_bytes c.args.row.now) (string_bytes c.append_text.new.row)
+    (printed text) v (value.Text text) is refl (c.append_text.ensures utf8)
 
 pub returns-in-Integer : goal.returns-in-Integer
 returns-in-Integer c = λ v says sound.
@@ -34,9 +34,9 @@ returns-in-Integer c = λ v says sound.
     let is : v ≡ value.Integer number = rw c.in-Integer.is at says in
     let fits : FitsSigned w32 number = search rules in
     let same = ap (λ (z : ℤ). printed (signed_decimal z)) (to_z-of_z w32 number fits) in
-    pushed_as c.push_integer.result (string_bytes c.args.row.now)
-    (string_bytes c.push_integer.new.row) _ v (value.Integer number) is same
-    c.push_integer.ensures
+    pushed_as c.append_integer.result (string_bytes c.args.row.now)
+    (string_bytes c.append_integer.new.row) _ v (value.Integer number) is same
+    c.append_integer.ensures
 
 pub returns-in-Long : goal.returns-in-Long
 returns-in-Long c = λ v says sound.
@@ -44,16 +44,16 @@ returns-in-Long c = λ v says sound.
     let is : v ≡ value.Long number = rw c.in-Long.is at says in
     let fits : FitsSigned w64 number = search rules in
     let same = ap (λ (z : ℤ). printed (signed_decimal z)) (to_z-of_z w64 number fits) in
-    pushed_as c.push_long.result (string_bytes c.args.row.now) (string_bytes c.push_long.new.row) _
-    v (value.Long number) is same c.push_long.ensures
+    pushed_as c.append_long.result (string_bytes c.args.row.now) (string_bytes c.append_long.new.row) _
+    v (value.Long number) is same c.append_long.ensures
 
 pub returns-in-Boolean : goal.returns-in-Boolean
 returns-in-Boolean c = λ v says sound.
     let truth = c.in-Boolean.truth in
     let is : v ≡ value.Boolean truth = rw c.in-Boolean.is at says in
-    pushed_as c.push_field.result (string_bytes c.args.row.now) (string_bytes c.push_field.new.row)
+    pushed_as c.append_field.result (string_bytes c.args.row.now) (string_bytes c.append_field.new.row)
     (printed c.truth_text.result.now) v (value.Boolean truth) is
-    (ap printed c.truth_text.ensures) c.push_field.ensures
+    (ap printed c.truth_text.ensures) c.append_field.ensures
 
 pub returns-in-Date : goal.returns-in-Date
 returns-in-Date c = λ v says sound.
@@ -83,6 +83,6 @@ pub returns-in-Geometry : goal.returns-in-Geometry
 returns-in-Geometry c = λ v says sound.
     let there = rw c.in-Geometry.is at says in
     let g = there.0 in
-    pushed_as c.push_stored_geometry.result (string_bytes c.args.row.now)
-    (string_bytes c.push_stored_geometry.new.row) (printed (wkt.printed g)) v (value.Geo g)
-    there.2 refl (c.push_stored_geometry.ensures g there.1)
+    pushed_as c.append_stored_geometry.result (string_bytes c.args.row.now)
+    (string_bytes c.append_stored_geometry.new.row) (printed (wkt.printed g)) v (value.Geo g)
+    there.2 refl (c.append_stored_geometry.ensures g there.1)

@@ -2,13 +2,13 @@ use Rattle.std.proofs.Common.{◌++◌, ℕ, List, ap, ◌∙◌}
 use Rattle.std.specs.String.{string_bytes}
 use Rattle.std.proofs.lemmas.Result.{IfOk-weaker}
 use Rattle.gm_rows.specs.Printer.{printed}
-use Rattle.gm_rows.proofs.stored.push_text.Goals as goal
+use Rattle.gm_rows.proofs.stored.append_text.Goals as goal
 
 pub returns-in-Ok : goal.returns-in-Ok
 returns-in-Ok c = λ utf8.
-    IfOk-weaker c.push_field.result _ _
+    IfOk-weaker c.append_field.result _ _
     (λ x e. e ∙ ap (λ (t : List ℕ). string_bytes c.args.row.now ++ printed t)
-    c.in-Ok.ensures.cases.0) c.push_field.ensures
+    c.in-Ok.ensures.cases.0) c.append_field.ensures
 
 pub returns-in-Err : goal.returns-in-Err
 returns-in-Err c = λ utf8. absurd (c.in-Err.ensures.cases.0 utf8)

@@ -4,7 +4,7 @@ use Rattle.gm_feature.specs.declared.feature.Feature.{Feature}
 use Rattle.gm_feature.specs.Stored.{IsStored}
 use Rattle.gm_rows.specs.Printer.{field_of, further}
 use Rattle.gm_rows.proofs.Pushing.{ArePushed}
-use Rattle.gm_rows.proofs.stored.push_stored_values.Given as goal
+use Rattle.gm_rows.proofs.stored.append_stored_values.Given as goal
 
 abbrev pub invariant-values : goal.invariant-values
 invariant-values l = (f : Feature) → IsStored l.stored f

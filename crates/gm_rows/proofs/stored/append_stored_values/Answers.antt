@@ -3,7 +3,7 @@ use Rattle.std.specs.String.{string_bytes}
 use Rattle.gm_feature.specs.declared.value.Value.TheVariants as value
 use Rattle.gm_feature.specs.Stored.{AreStored}
 use Rattle.gm_rows.proofs.Pushing.{as_many, from_place, still_pushed, pushed_all}
-use Rattle.gm_rows.proofs.stored.push_stored_values.Goals as goal
+use Rattle.gm_rows.proofs.stored.append_stored_values.Goals as goal
 
 pub values-init : goal.values-init
 values-init c = λ f is. record { stored = c.values-left.ensures f is; same = refl }
@@ -20,10 +20,10 @@ values-preserved c = λ f is.
     let others = drop (i + 1) f.values in
     let there : AreStored c.values.left (first ∷ others) =
     subst (AreStored c.values.left) (from_place f.values i low) before.stored in
-    still_pushed c.values.left c.push_next.new.left f.values i (string_bytes c.values.row)
-    (string_bytes c.push_str.new.self) (string_bytes c.push_next.new.row) _ low before
-    (c.push_next.ensures.rest first others there) c.in_ok-push_str.ensures.bytes
-    (c.in_ok-push_next.ensures.pushed first others there)
+    still_pushed c.values.left c.append_next.new.left f.values i (string_bytes c.values.row)
+    (string_bytes c.push_str.new.self) (string_bytes c.append_next.new.row) _ low before
+    (c.append_next.ensures.rest first others there) c.in_ok-push_str.ensures.bytes
+    (c.in_ok-append_next.ensures.pushed first others there)
 
 pub returns : goal.returns
 returns c = λ f is.
