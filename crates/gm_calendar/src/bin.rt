@@ -39,12 +39,12 @@ pub fn bin_of(period: Period, at: Instant) -> Option<Bin>
 }
 
 /// The first and the last millisecond of a bin.
-pub fn bin_span(period: Period, number: u16) -> (i64, i64)
-    requires { number ≤ last_of period }
-    ensures first { result.0 ≡ first_ms period number }
-    ensures last { result.1 ≡ last_ms period number }
+pub fn bin_span(period: Period, bin_number: u16) -> (i64, i64)
+    requires { bin_number ≤ last_of period }
+    ensures first { result.0 ≡ first_ms period bin_number }
+    ensures last { result.1 ≡ last_ms period bin_number }
 {
-    let extent = extent_of(period, number);
+    let extent = extent_of(period, bin_number);
     let first = u64::from(extent.first) * DAY_MS;
     let next = first + u64::from(extent.days) * DAY_MS;
     (first as i64, next as i64 - 1)

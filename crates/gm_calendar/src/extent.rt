@@ -17,52 +17,56 @@ pub(crate) struct Extent {
 }
 
 /// The days of a bin.
-pub(crate) fn extent_of(period: Period, number: u16) -> Extent
-    requires { number ≤ last_of period }
-    ensures { IsExtent period number result }
+pub(crate) fn extent_of(period: Period, bin_number: u16) -> Extent
+    requires { bin_number ≤ last_of period }
+    ensures { IsExtent period bin_number result }
 {
     match period {
-        Period::Day => day_extent(number),
-        Period::Week => week_extent(number),
-        Period::Month => month_extent(number),
-        Period::Year => year_extent(number),
+        Period::Day => day_extent(bin_number),
+        Period::Week => week_extent(bin_number),
+        Period::Month => month_extent(bin_number),
+        Period::Year => year_extent(bin_number),
     }
 }
 
-fn day_extent(number: u16) -> Extent
-    ensures { IsExtent Day number result }
+fn day_extent(bin_number: u16) -> Extent
+    ensures { IsExtent Day bin_number result }
 {
     Extent {
-        first: u32::from(number),
+        first: u32::from(bin_number),
         days: 1,
     }
 }
 
-fn week_extent(number: u16) -> Extent
-    ensures { IsExtent Week number result }
+fn week_extent(bin_number: u16) -> Extent
+    ensures { IsExtent Week bin_number result }
 {
     Extent {
-        first: u32::from(number) * 7,
+        first: u32::from(bin_number) * 7,
         days: 7,
     }
 }
 
-fn month_extent(number: u16) -> Extent
-    requires { number ≤ 32_767 }
-    ensures { IsExtent Month number result }
+fn month_extent(bin_number: u16) -> Extent
+    requires { bin_number ≤ 32_767 }
+    ensures { IsExtent Month bin_number result }
 {
-    let first = date(1970 + (number / 12) as i16, (number % 12) as i8 + 1, 1);
+    let first = date(
+        1970 + (bin_number / 12) as i16,
+        (bin_number % 12) as i8 + 1,
+        1,
+    );
     Extent {
         first: day_from_1970(first),
         days: first.days_in_month() as u32,
     }
 }
 
-fn year_extent(number: u16) -> Extent
-    requires { number ≤ 8_029 }
-    ensures { IsExtent Year number result }
+fn year_extent(bin_number: u16) -> Extent
+    requires { bin_number ≤ 8_029 }
+    ensures { IsExtent Year bin_number result }
 {
-    let first = date(1970 + number as i16, 1, 1);
+    let first = date(1970 + bin_number as i16, 1, 1);
     Extent {
         first: day_from_1970(first),
         days: first.days_in_year() as u32,

@@ -130,11 +130,11 @@ fn read_fraction(digits: &[u8]) -> Option<i64>
 }
 
 // The digit in that place, and 0 where there is none.
-fn digit_or_zero(digits: &[u8], place: usize) -> i64
-    ensures value { result ≡ pos (digit_at digits.now place) }
-    ensures bound { digit_at digits.now place < 256 }
+fn digit_or_zero(digits: &[u8], digit_place: usize) -> i64
+    ensures value { result ≡ pos (digit_at digits.now digit_place) }
+    ensures bound { digit_at digits.now digit_place < 256 }
 {
-    match digits.get(place) {
+    match digits.get(digit_place) {
         Some(digit) => i64::from(digit.saturating_sub(b'0')),
         None => 0,
     }

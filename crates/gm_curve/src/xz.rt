@@ -92,28 +92,28 @@ fn is_covered(low: &[u32], high: &[u32], shift: u32) -> bool
 }
 
 // The bits at a place of each coordinate, that of the first the lowest.
-fn bits_of(at: &[u32], place: u32) -> u64
+fn bits_of(at: &[u32], bit_place: u32) -> u64
     requires few { length at.now ≤ 3 }
-    requires place { place < 32 }
-    ensures bits { result ≡ bits_at place at.now }
+    requires place { bit_place < 32 }
+    ensures bits { result ≡ bits_at bit_place at.now }
     ensures below { result < 2 ^ length at.now }
 {
     match at {
         [] => 0,
-        [first, rest @ ..] => u64::from((*first >> place) & 1) + 2 * bits_of(rest, place),
+        [first, rest @ ..] => u64::from((*first >> bit_place) & 1) + 2 * bits_of(rest, bit_place),
     }
 }
 
 // How many sequences of fewer numbers than these there are.
-fn sequences(dimensions: usize, places: u32) -> u64
+fn sequences(dimensions: usize, sequence_places: u32) -> u64
     requires some { 1 ≤ dimensions }
     requires few { dimensions ≤ 3 }
-    requires least { 1 ≤ places }
-    requires most { places ≤ 16 }
-    ensures { result ≡ sequence_count dimensions (places - 1) }
+    requires least { 1 ≤ sequence_places }
+    requires most { sequence_places ≤ 16 }
+    ensures { result ≡ sequence_count dimensions (sequence_places - 1) }
 {
     let bits = dimensions as u32;
-    ((1u64 << bits * places) - 1) / ((1u64 << bits) - 1)
+    ((1u64 << bits * sequence_places) - 1) / ((1u64 << bits) - 1)
 }
 
 /// The sequence of a cell has, at its place i from 0, the bits G-1-i of the cell's indexes, and its

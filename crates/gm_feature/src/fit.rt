@@ -30,8 +30,8 @@ fn values_fit(attributes: &[Attribute], values: &[Value]) -> bool
     if attributes.len() != values.len() {
         return false;
     }
-    'values: for (number, value) in values.iter().enumerate() {
-        if !value_fits(attributes[number].kind, value) {
+    'values: for (attribute, value) in values.iter().enumerate() {
+        if !value_fits(attributes[attribute].kind, value) {
             return false;
         }
     }
@@ -113,7 +113,7 @@ pub fn dates_fit(of: &FeatureType, values: &[Value]) -> bool
     }
     match of.default_date() {
         None => true,
-        Some(number) => has_bin(of.period(), values, number),
+        Some(attribute) => has_bin(of.period(), values, attribute),
     }
 }
 
@@ -123,10 +123,10 @@ fn has_time_index(of: &FeatureType) -> bool
     of.has(IndexKind::Z3) || of.has(IndexKind::Xz3)
 }
 
-fn has_bin(period: Period, values: &[Value], number: u16) -> bool
-    ensures { result ≡ spec.has_bin period (spec.value_in values.now number) }
+fn has_bin(period: Period, values: &[Value], attribute: u16) -> bool
+    ensures { result ≡ spec.has_bin period (spec.value_in values.now attribute) }
 {
-    match values.get(number as usize) {
+    match values.get(attribute as usize) {
         Some(Value::Date(at)) => bin_of(period, *at).is_some(),
         _ => true,
     }

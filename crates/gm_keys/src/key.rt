@@ -60,7 +60,7 @@ fn key_in(
         IndexKind::Z3 => z3_key(alloc, of, feature),
         IndexKind::Xz2 => xz2_key(alloc, of, feature),
         IndexKind::Xz3 => xz3_key(alloc, of, feature),
-        IndexKind::Attr(number) => value_key(alloc, of, number, feature),
+        IndexKind::Attr(attribute) => value_key(alloc, of, attribute, feature),
     }
 }
 
@@ -136,14 +136,14 @@ fn xz3_key(alloc: Global, of: &FeatureType, feature: &Feature) -> Result<Option<
 fn value_key(
     alloc: Global,
     of: &FeatureType,
-    number: u16,
+    attribute: u16,
     feature: &Feature,
 ) -> Result<Option<Bytes>, NoMemory>
     requires { Fits of.now feature.now }
-    ensures { IfOk result (λ key. key ≡ spec.key_of of.now (Attr number) feature.now) }
+    ensures { IfOk result (λ key. key ≡ spec.key_of of.now (Attr attribute) feature.now) }
 {
-    match feature.values.as_slice().get(usize::from(number)) {
-        Some(value) => form_key(alloc, of, number, &feature.id, value),
+    match feature.values.as_slice().get(usize::from(attribute)) {
+        Some(value) => form_key(alloc, of, attribute, &feature.id, value),
         None => Ok(None),
     }
 }
@@ -151,17 +151,17 @@ fn value_key(
 fn form_key(
     alloc: Global,
     of: &FeatureType,
-    number: u16,
+    attribute: u16,
     id: &FeatureId,
     value: &Value,
 ) -> Result<Option<Bytes>, NoMemory>
     requires { is_sound value.now ≡ true }
-    ensures { IfOk result (λ key. key ≡ spec.value_key of.now number id.now value.now) }
+    ensures { IfOk result (λ key. key ≡ spec.value_key of.now attribute id.now value.now) }
 {
     match form_length(value) {
         Some(length) => {
             let rest = length + id.as_bytes().len();
-            let mut key = begun(alloc, of, IndexKind::Attr(number), rest)?;
+            let mut key = begun(alloc, of, IndexKind::Attr(attribute), rest)?;
             put_form(alloc, &mut key, value)?;
             key.append(id.as_bytes())?;
             Ok(Some(key))
@@ -240,7 +240,7 @@ fn put_attribute(key: &mut Bytes, kind: IndexKind) -> Result<(), NoMemory>
     ensures { OnOk result (key.new ≡ key.old ++ spec.attribute_number kind) }
 {
     match kind {
-        IndexKind::Attr(number) => put_number(key, number),
+        IndexKind::Attr(attribute) => put_number(key, attribute),
         _ => Ok(()),
     }
 }
@@ -312,8 +312,8 @@ fn push_value_keys(
         (attribute_indexes 0 (length of.now.attributes))) }
 {
     let count = of.attributes().len() as u16;
-    'attributes: for number in 0..count {
-        push_key(alloc, of, IndexKind::Attr(number), feature, keys)?;
+    'attributes: for attribute in 0..count {
+        push_key(alloc, of, IndexKind::Attr(attribute), feature, keys)?;
     }
     Ok(())
 }

@@ -67,7 +67,7 @@ fn after_attribute<'a>(kind: IndexKind, bytes: &'a [u8]) -> Option<&'a [u8]>
         → option_copied result ≡ Some rest }
 {
     match kind {
-        IndexKind::Attr(number) => after_number(number, bytes),
+        IndexKind::Attr(attribute) => after_number(attribute, bytes),
         _ => Some(bytes),
     }
 }
@@ -103,8 +103,8 @@ fn after_middle<'a>(of: &FeatureType, kind: IndexKind, bytes: &'a [u8]) -> Optio
         IndexKind::Id => Some(bytes),
         IndexKind::Z2 | IndexKind::Xz2 => after(bytes, 9),
         IndexKind::Z3 | IndexKind::Xz3 => after(bytes, 11),
-        IndexKind::Attr(number) => match of.attributes().as_slice().get(usize::from(number)) {
-            Some(attribute) => after_form(attribute.kind, bytes),
+        IndexKind::Attr(attribute) => match of.attributes().as_slice().get(usize::from(attribute)) {
+            Some(found) => after_form(found.kind, bytes),
             None => None,
         },
     }

@@ -19,8 +19,8 @@ fn geometry_in<'a>(of: &FeatureType, feature: &'a Feature) -> Option<&'a Geometr
     ensures value { option_copied result ≡ spec.geometry_in of.now feature.now }
     ensures kept { IfSome result (λ geometry. fault_of geometry.now ≡ None) }
 {
-    let number = of.default_geometry()?;
-    match feature.values.as_slice().get(usize::from(number)) {
+    let attribute = of.default_geometry()?;
+    match feature.values.as_slice().get(usize::from(attribute)) {
         Some(Value::Geo(geometry)) => Some(geometry),
         _ => None,
     }
@@ -30,8 +30,8 @@ fn geometry_in<'a>(of: &FeatureType, feature: &'a Feature) -> Option<&'a Geometr
 fn instant_in(of: &FeatureType, feature: &Feature) -> Option<Instant>
     ensures { result ≡ spec.instant_in of.now feature.now }
 {
-    let number = of.default_date()?;
-    match feature.values.as_slice().get(usize::from(number)) {
+    let attribute = of.default_date()?;
+    match feature.values.as_slice().get(usize::from(attribute)) {
         Some(Value::Date(at)) => Some(*at),
         _ => None,
     }

@@ -12,22 +12,22 @@ use gm_calendar::{Instant, LAST_MS, Period, bin_of, bin_span, bins_follow_time, 
 use std::alloc::Global;
 
 /// The first millisecond of an interval in a bin, and its last.
-pub(crate) fn start_in(period: Period, number: u16, interval: Interval) -> i64
-    requires { number ≤ last_of period }
-    ensures { result ≡ spec.start_in period number interval }
+pub(crate) fn start_in(period: Period, bin_number: u16, interval: Interval) -> i64
+    requires { bin_number ≤ last_of period }
+    ensures { result ≡ spec.start_in period bin_number interval }
 {
-    let (first, _) = bin_span(period, number);
+    let (first, _) = bin_span(period, bin_number);
     match interval.low {
         Some(low) => low.max(first),
         None => first,
     }
 }
 
-pub(crate) fn end_in(period: Period, number: u16, interval: Interval) -> i64
-    requires { number ≤ last_of period }
-    ensures { result ≡ spec.end_in period number interval }
+pub(crate) fn end_in(period: Period, bin_number: u16, interval: Interval) -> i64
+    requires { bin_number ≤ last_of period }
+    ensures { result ≡ spec.end_in period bin_number interval }
 {
-    let (_, last) = bin_span(period, number);
+    let (_, last) = bin_span(period, bin_number);
     match interval.high {
         Some(high) => high.min(last),
         None => last,
@@ -35,19 +35,19 @@ pub(crate) fn end_in(period: Period, number: u16, interval: Interval) -> i64
 }
 
 /// Whether the interval meets the bin.
-pub(crate) fn meets_bin(period: Period, number: u16, interval: Interval) -> bool
-    requires { number ≤ last_of period }
-    ensures { result ≡ spec.meets_bin period number interval }
+pub(crate) fn meets_bin(period: Period, bin_number: u16, interval: Interval) -> bool
+    requires { bin_number ≤ last_of period }
+    ensures { result ≡ spec.meets_bin period bin_number interval }
 {
-    start_in(period, number, interval) <= end_in(period, number, interval)
+    start_in(period, bin_number, interval) <= end_in(period, bin_number, interval)
 }
 
-fn is_met(period: Period, intervals: &[Interval], number: u16) -> bool
-    requires { number ≤ last_of period }
-    ensures { result ≡ spec.is_met period intervals.now number }
+fn is_met(period: Period, intervals: &[Interval], bin_number: u16) -> bool
+    requires { bin_number ≤ last_of period }
+    ensures { result ≡ spec.is_met period intervals.now bin_number }
 {
     'intervals: for interval in intervals {
-        if meets_bin(period, number, *interval) {
+        if meets_bin(period, bin_number, *interval) {
             return true;
         }
     }
@@ -66,14 +66,14 @@ fn unit_ms(period: Period) -> u64
 }
 
 /// The offset in a bin of one of its milliseconds.
-pub(crate) fn offset_in(period: Period, number: u16, at: i64) -> u32
-    requires numbered { number ≤ last_of period }
-    requires lies { LiesIn period at number }
-    ensures offset { result ≡ spec.offset_in period number at }
+pub(crate) fn offset_in(period: Period, bin_number: u16, at: i64) -> u32
+    requires numbered { bin_number ≤ last_of period }
+    requires lies { LiesIn period at bin_number }
+    ensures offset { result ≡ spec.offset_in period bin_number at }
     ensures within { result < longest_of period }
 {
     bins_follow_time(period);
-    let (first, _) = bin_span(period, number);
+    let (first, _) = bin_span(period, bin_number);
     let ms = (at - first) as u64;
     (ms / unit_ms(period)) as u32
 }
@@ -86,13 +86,13 @@ pub(crate) fn bins_of(
     intervals: &[Interval],
 ) -> Result<Vec<u16>, NoMemory>
     ensures value { IfOk result (λ bins. bins.items ≡ spec.bins_of period intervals.now) }
-    ensures numbered { IfOk result (λ bins. All (λ number. number ≤ last_of period) bins.items) }
+    ensures numbered { IfOk result (λ bins. All (λ bin. bin ≤ last_of period) bins.items) }
 {
     let mut bins = Vec::new(alloc);
     let first = first_bin(period, intervals);
     let end = end_bin(period, intervals);
-    'bins: for number in first..end {
-        push_met(&mut bins, period, intervals, number)?;
+    'bins: for bin in first..end {
+        push_met(&mut bins, period, intervals, bin)?;
     }
     Ok(bins)
 }
@@ -102,14 +102,14 @@ fn push_met(
     bins: &mut Vec<u16>,
     period: Period,
     intervals: &[Interval],
-    number: u16,
+    bin_number: u16,
 ) -> Result<(), NoMemory>
-    requires { number ≤ last_of period }
+    requires { bin_number ≤ last_of period }
     ensures { OnOk result (bins.new.items
-        ≡ bins.old.items ++ filter (spec.is_met period intervals.now) (number ∷ [])) }
+        ≡ bins.old.items ++ filter (spec.is_met period intervals.now) (bin_number ∷ [])) }
 {
-    if is_met(period, intervals, number) {
-        bins.push(number)?;
+    if is_met(period, intervals, bin_number) {
+        bins.push(bin_number)?;
     }
     Ok(())
 }
@@ -171,14 +171,14 @@ fn end_of(period: Period, interval: Interval) -> u16
 }
 
 // The next bin, up to the one behind the last.
-fn behind(period: Period, number: u16) -> u16
-    requires { number ≤ last_of period + 1 }
-    ensures { result ≡ min (number + 1) (last_of period + 1) }
+fn behind(period: Period, bin_number: u16) -> u16
+    requires { bin_number ≤ last_of period + 1 }
+    ensures { result ≡ min (bin_number + 1) (last_of period + 1) }
 {
-    if number <= last_bin(period) {
-        number + 1
+    if bin_number <= last_bin(period) {
+        bin_number + 1
     } else {
-        number
+        bin_number
     }
 }
 

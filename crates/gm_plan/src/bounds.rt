@@ -49,14 +49,14 @@ pub(crate) fn interval_list(
 pub(crate) fn value_list(
     alloc: Global,
     of: &FeatureType,
-    number: u16,
+    attribute: u16,
     filter: &Filter,
 ) -> Result<ByteRangeItems, NoMemory>
     requires { Suits of.now (tree filter.now) }
     ensures { IfOk result (λ list. list
-        ≡ list_of (byte_ranges_of of.now number (tree filter.now))) }
+        ≡ list_of (byte_ranges_of of.now attribute (tree filter.now))) }
 {
-    match attr_bounds(alloc, of, number, filter)? {
+    match attr_bounds(alloc, of, attribute, filter)? {
         Bound::World => Ok(Items::new(alloc)),
         Bound::Listed(list) => Ok(list),
     }

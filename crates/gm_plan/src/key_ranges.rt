@@ -56,8 +56,8 @@ pub fn ranges(
             let list = xz3_ranges(alloc, of, boxes.as_slice(), intervals.as_slice(), target)?;
             Ok(in_shards(of.shards(), list))
         }
-        IndexKind::Attr(number) => {
-            let list = value_list(alloc, of, number, filter)?;
+        IndexKind::Attr(attribute) => {
+            let list = value_list(alloc, of, attribute, filter)?;
             Ok(in_shards(1, value_ranges(alloc, list)?))
         }
     }

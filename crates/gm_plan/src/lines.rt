@@ -50,9 +50,9 @@ fn append_range(alloc: Global, out: &mut String, range: &Range) -> Result<(), No
             out.push_str("run ")?;
             append_run(out, *low, *high, *level)
         }
-        Range::InBin(number, low, high, level) => {
+        Range::InBin(bin_number, low, high, level) => {
             out.push_str("run ")?;
-            append_number(out, u64::from(*number))?;
+            append_number(out, u64::from(*bin_number))?;
             out.push_str(" ")?;
             append_run(out, *low, *high, *level)
         }

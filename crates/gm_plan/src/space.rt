@@ -156,7 +156,7 @@ fn ranges_in_bins<T: Tree<3>, L: Ledger>(
     requires few_boxes { length extents.now.boxes.now ≤ 8 }
     requires few_intervals { length extents.now.intervals.now ≤ 8 }
     requires few_bins { length bins.now ≤ target }
-    requires numbered { All (λ number. number ≤ last_of extents.now.period) bins.now }
+    requires numbered { All (λ bin. bin ≤ last_of extents.now.period) bins.now }
     ensures { IfOk result (λ list. list ≡ spec.ranges_in_bins (T.shape tree.now)
         (windows_in extents.now.period extents.now.bits
         extents.now.boxes.now extents.now.intervals.now)
@@ -169,24 +169,24 @@ fn ranges_in_bins<T: Tree<3>, L: Ledger>(
     let part = target / bins.len() as u32;
     let mut steps = Steps::<L>::new(blank);
     let mut known = Vec::new(alloc);
-    'bins: for number in bins {
-        let windows = windows_of(alloc, extents, *number)?;
+    'bins: for bin in bins {
+        let windows = windows_of(alloc, extents, *bin)?;
         push_bin(
-            alloc, tree, &mut known, windows, part, *number, &mut steps, &mut list,
+            alloc, tree, &mut known, windows, part, *bin, &mut steps, &mut list,
         )?;
     }
     Ok(Items::from_vec(list))
 }
 
 // The windows in a bin, of which there are few.
-fn windows_of(alloc: Global, extents: &Extents, number: u16) -> Result<Vec<Window>, NoMemory>
-    requires numbered { number ≤ last_of extents.now.period }
+fn windows_of(alloc: Global, extents: &Extents, bin_number: u16) -> Result<Vec<Window>, NoMemory>
+    requires numbered { bin_number ≤ last_of extents.now.period }
     requires wide { 1 ≤ extents.now.bits }
     requires narrow { extents.now.bits ≤ 31 }
     requires few_boxes { length extents.now.boxes.now ≤ 8 }
     requires few_intervals { length extents.now.intervals.now ≤ 8 }
     ensures value { IfOk result (λ windows. windows.items ≡ windows_in extents.now.period
-        extents.now.bits extents.now.boxes.now extents.now.intervals.now number) }
+        extents.now.bits extents.now.boxes.now extents.now.intervals.now bin_number) }
     ensures few { IfOk result (λ windows. length windows.items ≤ 64) }
 {
     let windows = windows_in(
@@ -195,7 +195,7 @@ fn windows_of(alloc: Global, extents: &Extents, number: u16) -> Result<Vec<Windo
         extents.bits,
         extents.boxes,
         extents.intervals,
-        number,
+        bin_number,
     )?;
     Ok(windows)
 }
@@ -208,7 +208,7 @@ fn push_bin<T: Tree<3>, L: Ledger>(
     known: &mut Vec<Known>,
     windows: Vec<Window>,
     target: u32,
-    number: u16,
+    bin_number: u16,
     steps: &mut Steps<L>,
     list: &mut Vec<Range>,
 ) -> Result<(), NoMemory>
@@ -218,14 +218,14 @@ fn push_bin<T: Tree<3>, L: Ledger>(
     requires windows { length windows.items ≤ 64 }
     requires known { All (IsKnown (T.shape tree.now) target) known.old.items }
     ensures list { OnOk result (list.new.items ≡ list.old.items
-        ++ bin_ranges (T.shape tree.now) number windows.items target) }
+        ++ bin_ranges (T.shape tree.now) bin_number windows.items target) }
     ensures known { OnOk result (All (IsKnown (T.shape tree.now) target) known.new.items) }
 {
     if let Some(found) = found_for(known, &windows) {
-        return push_ranges(list, number, found);
+        return push_ranges(list, bin_number, found);
     }
     let found = split(alloc, tree, &windows, target, steps)?;
-    push_ranges(list, number, &found)?;
+    push_ranges(list, bin_number, &found)?;
     known.push(Known { windows, found })?;
     Ok(())
 }
@@ -272,13 +272,13 @@ fn is_same_cell(one: Node3, other: Node3) -> bool
 }
 
 // Adds the runs that were found, as ranges of a bin.
-fn push_ranges(list: &mut Vec<Range>, number: u16, found: &Split) -> Result<(), NoMemory>
+fn push_ranges(list: &mut Vec<Range>, bin_number: u16, found: &Split) -> Result<(), NoMemory>
     ensures { OnOk result (list.new.items ≡ list.old.items
-        ++ map (bin_range number found.now.level) found.now.runs) }
+        ++ map (bin_range bin_number found.now.level) found.now.runs) }
 {
     'runs: for i in 0..found.runs.count() {
         let (low, high) = found.runs.at(i);
-        list.push(Range::InBin(number, low, high, found.level))?;
+        list.push(Range::InBin(bin_number, low, high, found.level))?;
     }
     Ok(())
 }

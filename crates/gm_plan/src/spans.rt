@@ -102,8 +102,8 @@ fn push_span(
 {
     match range {
         Range::Codes(low, high, _) => push_codes(alloc, spans, front, *low, *high),
-        Range::InBin(number, low, high, _) => {
-            push_in_bin(alloc, spans, front, *number, *low, *high)
+        Range::InBin(bin_number, low, high, _) => {
+            push_in_bin(alloc, spans, front, *bin_number, *low, *high)
         }
         Range::Span(first, last) => push_bins(alloc, spans, front, *first, *last),
         Range::Values(low, high) => {
@@ -139,21 +139,21 @@ fn push_in_bin(
     alloc: Global,
     spans: &mut ByteRangeList,
     front: &Front<'_>,
-    number: u16,
+    bin_number: u16,
     low: u64,
     high: u64,
 ) -> Result<(), NoMemory>
     ensures { OnOk result (spans.new ≡ spans.old ++ spec.from_to
-        (key.bin_code_front front.now.prefix.now front.now.shard number low)
-        (key.bin_code_front front.now.prefix.now front.now.shard number high) ∷ []) }
+        (key.bin_code_front front.now.prefix.now front.now.shard bin_number low)
+        (key.bin_code_front front.now.prefix.now front.now.shard bin_number high) ∷ []) }
 {
-    let least = in_bin_bytes(number, low);
-    let most = in_bin_bytes(number, high);
+    let least = in_bin_bytes(bin_number, low);
+    let most = in_bin_bytes(bin_number, high);
     if push_behind(spans, &front.joined, least, most)? {
         return Ok(());
     }
-    let low = bin_code_front(alloc, front, number, low)?;
-    let high = bin_code_front(alloc, front, number, high)?;
+    let low = bin_code_front(alloc, front, bin_number, low)?;
+    let high = bin_code_front(alloc, front, bin_number, high)?;
     push_from_to(alloc, spans, low.as_slice(), high.as_slice())
 }
 
@@ -259,8 +259,8 @@ fn prefix_of(alloc: Global, of: &FeatureType, kind: IndexKind) -> Result<Bytes, 
     let mut prefix = Bytes::new(alloc);
     put_number(&mut prefix, of.number())?;
     prefix.append(&[index_number(kind)])?;
-    if let IndexKind::Attr(number) = kind {
-        put_number(&mut prefix, number)?;
+    if let IndexKind::Attr(attribute) = kind {
+        put_number(&mut prefix, attribute)?;
     }
     Ok(prefix)
 }
@@ -290,13 +290,13 @@ fn code_front(alloc: Global, front: &Front<'_>, code: u64) -> Result<Bytes, NoMe
 }
 
 #[tactic(auto, unfolding(gm_keys::specs::Key::bin_front))]
-fn bin_front(alloc: Global, front: &Front<'_>, number: u16) -> Result<Bytes, NoMemory>
+fn bin_front(alloc: Global, front: &Front<'_>, bin_number: u16) -> Result<Bytes, NoMemory>
     ensures { IfOk result (λ bytes. bytes
-        ≡ key.bin_front front.now.prefix.now front.now.shard number) }
+        ≡ key.bin_front front.now.prefix.now front.now.shard bin_number) }
 {
     let mut bytes = Bytes::from_slice(alloc, front.prefix)?;
     bytes.append(&[front.shard])?;
-    put_number(&mut bytes, number)?;
+    put_number(&mut bytes, bin_number)?;
     Ok(bytes)
 }
 
@@ -304,13 +304,13 @@ fn bin_front(alloc: Global, front: &Front<'_>, number: u16) -> Result<Bytes, NoM
 fn bin_code_front(
     alloc: Global,
     front: &Front<'_>,
-    number: u16,
+    bin_number: u16,
     code: u64,
 ) -> Result<Bytes, NoMemory>
     ensures { IfOk result (λ bytes. bytes
-        ≡ key.bin_code_front front.now.prefix.now front.now.shard number code) }
+        ≡ key.bin_code_front front.now.prefix.now front.now.shard bin_number code) }
 {
-    let mut bytes = bin_front(alloc, front, number)?;
+    let mut bytes = bin_front(alloc, front, bin_number)?;
     put_code(&mut bytes, code)?;
     Ok(bytes)
 }
@@ -344,10 +344,10 @@ fn code_bytes(code: u64) -> [u8; 8]
 }
 
 // The bytes of a bin's number and of a code in it.
-fn in_bin_bytes(number: u16, code: u64) -> [u8; 10]
-    ensures { result ≡ big_bytes 2 number ++ big_bytes 8 code }
+fn in_bin_bytes(bin_number: u16, code: u64) -> [u8; 10]
+    ensures { result ≡ big_bytes 2 bin_number ++ big_bytes 8 code }
 {
-    let [a, b] = number_bytes(number);
+    let [a, b] = number_bytes(bin_number);
     let [c, d, e, f, g, h, i, j] = code_bytes(code);
     [a, b, c, d, e, f, g, h, i, j]
 }

@@ -96,15 +96,15 @@ pub(crate) fn windows_of(alloc: Global, bits: u32, boxes: &[Box2]) -> Result<Vec
 }
 
 // The same over the part of a bin that the interval meets.
-fn window_in(period: Period, bits: u32, number: u16, extent: Box2, interval: Interval) -> Window
-    requires numbered { number ≤ last_of period }
-    requires met { meets_bin period number interval ≡ true }
+fn window_in(period: Period, bits: u32, bin_number: u16, extent: Box2, interval: Interval) -> Window
+    requires numbered { bin_number ≤ last_of period }
+    requires met { meets_bin period bin_number interval ≡ true }
     requires some { 1 ≤ bits }
     requires few { bits ≤ 31 }
-    ensures { result ≡ spec.window_in period bits number extent interval }
+    ensures { result ≡ spec.window_in period bits bin_number extent interval }
 {
-    let first = offset_in(period, number, start_in(period, number, interval));
-    let last = offset_in(period, number, end_in(period, number, interval));
+    let first = offset_in(period, bin_number, start_in(period, bin_number, interval));
+    let last = offset_in(period, bin_number, end_in(period, bin_number, interval));
     let low = Node3 {
         x: longitude_cell(extent.low.x, bits),
         y: latitude_cell(extent.low.y, bits),
@@ -123,20 +123,20 @@ fn push_windows(
     windows: &mut Vec<Window>,
     period: Period,
     bits: u32,
-    number: u16,
+    bin_number: u16,
     extent: Box2,
     intervals: &[Interval],
 ) -> Result<(), NoMemory>
-    requires numbered { number ≤ last_of period }
+    requires numbered { bin_number ≤ last_of period }
     requires some { 1 ≤ bits }
     requires few { bits ≤ 31 }
     ensures { OnOk result (windows.new.items ≡ windows.old.items
-        ++ map (spec.window_in period bits number extent)
-        (filter (meets_bin period number) intervals.now)) }
+        ++ map (spec.window_in period bits bin_number extent)
+        (filter (meets_bin period bin_number) intervals.now)) }
 {
     'intervals: for interval in intervals {
-        if meets_bin(period, number, *interval) {
-            windows.push(window_in(period, bits, number, extent, *interval))?;
+        if meets_bin(period, bin_number, *interval) {
+            windows.push(window_in(period, bits, bin_number, extent, *interval))?;
         }
     }
     Ok(())
@@ -149,17 +149,17 @@ pub(crate) fn windows_in(
     bits: u32,
     boxes: &[Box2],
     intervals: &[Interval],
-    number: u16,
+    bin_number: u16,
 ) -> Result<Vec<Window>, NoMemory>
-    requires numbered { number ≤ last_of period }
+    requires numbered { bin_number ≤ last_of period }
     requires some { 1 ≤ bits }
     requires few { bits ≤ 31 }
     ensures { IfOk result (λ windows. windows.items
-        ≡ spec.windows_in period bits boxes.now intervals.now number) }
+        ≡ spec.windows_in period bits boxes.now intervals.now bin_number) }
 {
     let mut windows = Vec::new(alloc);
     'boxes: for extent in boxes {
-        push_windows(&mut windows, period, bits, number, *extent, intervals)?;
+        push_windows(&mut windows, period, bits, bin_number, *extent, intervals)?;
     }
     Ok(windows)
 }

@@ -63,13 +63,13 @@ pub(crate) fn execute<B: Sorted>(
     match command {
         Command::Nothing => Ok(None),
         Command::Create(of) => create(alloc, of, &mut store.types),
-        Command::Put(number, feature) => put(alloc, number, feature, store, tally),
-        Command::Delete(number, id) => delete(alloc, number, id, store, tally),
-        Command::Remove(number, filter) => remove(alloc, number, filter, store, tally),
-        Command::Modify(number, change) => modify(alloc, number, change, store, tally),
+        Command::Put(type_number, feature) => put(alloc, type_number, feature, store, tally),
+        Command::Delete(type_number, id) => delete(alloc, type_number, id, store, tally),
+        Command::Remove(type_number, filter) => remove(alloc, type_number, filter, store, tally),
+        Command::Modify(type_number, change) => modify(alloc, type_number, change, store, tally),
         Command::Query(ask) => query(alloc, &ask, store, tally),
         Command::Count(ask) => count(alloc, &ask, store, tally),
         Command::Explain(ask) => explain(alloc, &ask, &store.types),
-        Command::Describe(number) => describe(alloc, number, &store.types),
+        Command::Describe(type_number) => describe(alloc, type_number, &store.types),
     }
 }

@@ -91,8 +91,8 @@ fn append_puts(alloc: Global, script: &mut String, seed: u64, count: u32) -> Res
         ≡ string_bytes script.old ++ spec.put_lines count 1 seed) }
 {
     let mut state = seed;
-    'puts: for place in 0..count {
-        append_put(alloc, script, place + 1, &mut state)?;
+    'puts: for feature_place in 0..count {
+        append_put(alloc, script, feature_place + 1, &mut state)?;
     }
     Ok(())
 }
@@ -101,11 +101,11 @@ fn append_puts(alloc: Global, script: &mut String, seed: u64, count: u32) -> Res
 fn append_put(
     alloc: Global,
     script: &mut String,
-    number: u32,
+    feature_number: u32,
     state: &mut u64,
 ) -> Result<(), NoMemory>
     ensures script { IfOk result (λ _. string_bytes script.new
-        ≡ string_bytes script.old ++ spec.put_line number state.old) }
+        ≡ string_bytes script.old ++ spec.put_line feature_number state.old) }
     ensures state { IfOk result (λ _. state.new ≡ spec.behind 5 state.old) }
 {
     let name = draw(state, 100);
@@ -114,7 +114,7 @@ fn append_put(
     let x = draw(state, 2 * HALF_WIDTH + 1);
     let y = draw(state, 2 * HALF_HEIGHT + 1);
     append(script, "put gen g")?;
-    append_number(script, u64::from(number))?;
+    append_number(script, u64::from(feature_number))?;
     append(script, ",n")?;
     append_number(script, name)?;
     append(script, ",")?;

@@ -7,11 +7,11 @@ use gm_calendar::{Period, bin_of};
 use gm_feature::Value;
 use gm_types::{FeatureType, IndexKind};
 
-fn is_place(place: u16, number: Option<u16>) -> bool
-    ensures { result ≡ spec.is_place place number }
+fn is_place(attribute: u16, default_date: Option<u16>) -> bool
+    ensures { result ≡ spec.is_place attribute default_date }
 {
-    match number {
-        Some(number) => number == place,
+    match default_date {
+        Some(default_date) => default_date == attribute,
         None => false,
     }
 }
@@ -33,8 +33,8 @@ fn has_time_index(of: &FeatureType) -> bool
 
 /// Whether an attribute may take the value where an index over time is enabled: the default date is
 /// null or has a bin.
-pub(crate) fn keeps_bins(of: &FeatureType, place: u16, value: &Value) -> bool
-    ensures { result ≡ spec.keeps_bins of.now place value.now }
+pub(crate) fn keeps_bins(of: &FeatureType, attribute: u16, value: &Value) -> bool
+    ensures { result ≡ spec.keeps_bins of.now attribute value.now }
 {
-    !has_time_index(of) || !is_place(place, of.default_date()) || has_bin(of.period(), value)
+    !has_time_index(of) || !is_place(attribute, of.default_date()) || has_bin(of.period(), value)
 }

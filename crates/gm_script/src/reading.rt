@@ -142,7 +142,7 @@ fn type_named<'a>(types: &'a TypeList, name: &[u8]) -> Option<(u16, &'a FeatureT
         ≡ spec.type_named types.now name.now }
     ensures there { IfSome result (λ found. slice_get types.now found.0 ≡ Some found.1.now) }
 {
-    let number = types.number_of(name)?;
-    let of = types.get(number)?;
-    Some((number, of))
+    let type_number = types.number_of(name)?;
+    let of = types.get(type_number)?;
+    Some((type_number, of))
 }

@@ -20,9 +20,9 @@ fn blank_count(text: &[u8]) -> usize
     ensures value { result ≡ prefix_len spec.is_blank text.now }
     ensures within { result ≤ length text.now }
 {
-    'bytes: for (place, byte) in text.iter().enumerate() {
+    'bytes: for (byte_place, byte) in text.iter().enumerate() {
         if !is_blank(*byte) {
-            return place;
+            return byte_place;
         }
     }
     text.len()
@@ -32,9 +32,9 @@ fn word_length(text: &[u8]) -> usize
     ensures value { result ≡ prefix_len spec.is_no_blank text.now }
     ensures within { result ≤ length text.now }
 {
-    'bytes: for (place, byte) in text.iter().enumerate() {
+    'bytes: for (byte_place, byte) in text.iter().enumerate() {
         if !is_no_blank(*byte) {
-            return place;
+            return byte_place;
         }
     }
     text.len()

@@ -22,19 +22,19 @@ use std::alloc::Global;
 /// Unbinds an identifier of the type with this number.
 pub(super) fn delete<B: Sorted>(
     alloc: Global,
-    number: u16,
+    type_number: u16,
     id: FeatureId,
     store: &mut Store<B>,
     tally: &mut B::Tally,
 ) -> Result<Option<Reply>, NoMemory>
     requires kept { HasState store.old.types (B.rows store.old.table) }
-    requires suits { Suits store.old.types (order.delete number id) }
+    requires suits { Suits store.old.types (order.delete type_number id) }
     ensures { (s : State) → Holds s store.old.types (B.rows store.old.table)
-        → IfOk result (λ reply. Executes (delete_step number id s) reply
+        → IfOk result (λ reply. Executes (delete_step type_number id s) reply
         store.new.types (B.rows store.new.table) (B.Tally.number tally.old)
         (B.Tally.number tally.new)) }
 {
-    let of = &store.types.as_slice()[usize::from(number)];
+    let of = &store.types.as_slice()[usize::from(type_number)];
     delete_of(alloc, of, id, &mut store.table, tally)
 }
 

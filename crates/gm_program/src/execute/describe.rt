@@ -14,14 +14,14 @@ use std::alloc::Global;
 /// Says what the type with this number is.
 pub(super) fn describe(
     alloc: Global,
-    number: u16,
+    type_number: u16,
     types: &TypeList,
 ) -> Result<Option<Reply>, NoMemory>
-    requires { number < length types.now }
+    requires { type_number < length types.now }
     ensures { (s : State) (rows : Rows) (tally : ℕ) → tally < 2 ^ 64 → Holds s types.now rows
         → IfOk result (λ reply. Executes
-        (describe_step number s) reply types.now rows tally tally) }
+        (describe_step type_number s) reply types.now rows tally tally) }
 {
-    let lines = lines_of(alloc, &types.as_slice()[usize::from(number)])?;
+    let lines = lines_of(alloc, &types.as_slice()[usize::from(type_number)])?;
     Ok(Some(Reply::Described(lines)))
 }

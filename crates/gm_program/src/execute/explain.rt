@@ -52,10 +52,10 @@ fn plan_lines(
         ≡ lines_of_plan of.now target 1 (map chosen_of parts.now)) }
 {
     let mut lines = Vec::new(alloc);
-    let mut place = 0;
+    let mut part_place = 0;
     'parts: for part in parts {
-        place += 1;
-        push_part(alloc, of, part, target, place, &mut lines)?;
+        part_place += 1;
+        push_part(alloc, of, part, target, part_place, &mut lines)?;
     }
     Ok(Items::from_vec(lines))
 }
@@ -66,21 +66,21 @@ fn push_part(
     of: &FeatureType,
     part: &Part,
     target: u32,
-    place: usize,
+    part_place: usize,
     lines: &mut Vec<Text>,
 ) -> Result<(), NoMemory>
     requires served { IsServed of.now (chosen_of part.now) }
     requires least { 1 ≤ target }
     requires most { target ≤ 10000 }
     ensures { OnOk result (lines.new.items
-        ≡ lines.old.items ++ part_lines of.now target place (chosen_of part.now)) }
+        ≡ lines.old.items ++ part_lines of.now target part_place (chosen_of part.now)) }
 {
     let of_ranges = ranges(alloc, of, part.kind, &part.filter, target)?;
     let runs = of_ranges.ranges.len();
     lines.push(part_line(
         alloc,
         of,
-        place,
+        part_place,
         part.kind,
         part.cost,
         of_ranges.shards,

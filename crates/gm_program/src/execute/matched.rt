@@ -33,11 +33,11 @@ pub(super) enum Matched {
 const TARGET: u64 = 2_000;
 
 /// A question without words.
-pub(super) fn plainly(number: u16, filter: Filter) -> Ask
-    ensures { asked_by result ≡ plain number (tree filter) }
+pub(super) fn plainly(type_number: u16, filter: Filter) -> Ask
+    ensures { asked_by result ≡ plain type_number (tree filter) }
 {
     Ask {
-        number,
+        number: type_number,
         hint: None,
         target: TARGET,
         filter,

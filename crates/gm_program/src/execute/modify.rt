@@ -34,27 +34,27 @@ use std::alloc::Global;
 /// number.
 pub(super) fn modify<B: Sorted>(
     alloc: Global,
-    number: u16,
+    type_number: u16,
     change: Change,
     store: &mut Store<B>,
     tally: &mut B::Tally,
 ) -> Result<Option<Reply>, NoMemory>
     requires kept { HasState store.old.types (B.rows store.old.table) }
     requires suits { Suits store.old.types
-        (order.modify number change.attribute change.value (tree change.filter)) }
+        (order.modify type_number change.attribute change.value (tree change.filter)) }
     ensures { (s : State) → Holds s store.old.types (B.rows store.old.table)
         → IfOk result (λ reply. Executes
-        (modify_step number change.attribute change.value (tree change.filter) s) reply
+        (modify_step type_number change.attribute change.value (tree change.filter) s) reply
         store.new.types (B.rows store.new.table)
         (B.Tally.number tally.old) (B.Tally.number tally.new)) }
 {
-    let of = &store.types.as_slice()[usize::from(number)];
+    let of = &store.types.as_slice()[usize::from(type_number)];
     let Change {
         attribute,
         value,
         filter,
     } = change;
-    let ask = plainly(number, filter);
+    let ask = plainly(type_number, filter);
     modify_of(alloc, of, &ask, attribute, &value, &mut store.table, tally)
 }
 
@@ -63,7 +63,7 @@ fn modify_of<B: Sorted>(
     alloc: Global,
     of: &FeatureType,
     ask: &Ask,
-    place: u16,
+    attribute: u16,
     value: &Value,
     table: &mut B,
     tally: &mut B::Tally,
@@ -71,11 +71,11 @@ fn modify_of<B: Sorted>(
     requires typed { HasType of.now (B.rows table.old) }
     requires plain { asked_by ask.now ≡ plain of.now.number (tree ask.now.filter) }
     requires suits { SuitsType of.now (tree ask.now.filter) }
-    requires takes { MayTake of.now place value.now }
+    requires takes { MayTake of.now attribute value.now }
     ensures { (s : State) (types : Types) → Holds s types (B.rows table.old)
         → type_at of.now.number s ≡ Some of.now
         → IfOk result (λ reply. Executes
-        (modify_step of.now.number place value.now (tree ask.now.filter) s) reply
+        (modify_step of.now.number attribute value.now (tree ask.now.filter) s) reply
         types (B.rows table.new) (B.Tally.number tally.old) (B.Tally.number tally.new)) }
 {
     rows_follow_exchanges();
@@ -86,7 +86,7 @@ fn modify_of<B: Sorted>(
         Matched::Refused(code) => Ok(Some(Reply::Refusal { code, row: None })),
         Matched::Features(features, _) => {
             let count = features.len() as u64;
-            let exchanges = changes(alloc, of, features, place, value)?;
+            let exchanges = changes(alloc, of, features, attribute, value)?;
             let batch = batch_of_all(alloc, of, exchanges.as_slice())?;
             let room = has_room(
                 alloc,
@@ -112,16 +112,16 @@ fn changes(
     alloc: Global,
     of: &FeatureType,
     features: FeatureList,
-    place: u16,
+    attribute: u16,
     value: &Value,
 ) -> Result<Items<Exchange>, NoMemory>
     requires fit { All (Fits of.now) features }
-    requires takes { MayTake of.now place value.now }
-    ensures { IfOk result (λ exchanges. exchanges ≡ map (given place value.now) features) }
+    requires takes { MayTake of.now attribute value.now }
+    ensures { IfOk result (λ exchanges. exchanges ≡ map (given attribute value.now) features) }
 {
     let mut exchanges = Vec::with_capacity(alloc, features.len())?;
     'features: for old in features.into_vec() {
-        let new = Some(with_value(alloc, of, &old, place, value)?);
+        let new = Some(with_value(alloc, of, &old, attribute, value)?);
         exchanges.push(Exchange { old, new })?;
     }
     Ok(Items::from_vec(exchanges))
@@ -132,16 +132,16 @@ fn with_value(
     alloc: Global,
     of: &FeatureType,
     feature: &Feature,
-    place: u16,
+    attribute: u16,
     value: &Value,
 ) -> Result<Feature, NoMemory>
     requires fits { Fits of.now feature.now }
-    requires takes { MayTake of.now place value.now }
-    ensures { IfOk result (λ other. other ≡ with_value place value.now feature.now) }
+    requires takes { MayTake of.now attribute value.now }
+    ensures { IfOk result (λ other. other ≡ with_value attribute value.now feature.now) }
 {
     let Feature { id, values } = feature.copy(alloc)?;
     let mut values = values.into_vec();
-    values[usize::from(place)] = value.copy(alloc)?;
+    values[usize::from(attribute)] = value.copy(alloc)?;
     Ok(Feature {
         id,
         values: Items::from_vec(values),

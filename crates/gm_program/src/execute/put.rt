@@ -30,19 +30,19 @@ pub(super) const ROW_LIMIT: u64 = 2_000_000;
 /// Binds an identifier of the type with this number to a feature.
 pub(super) fn put<B: Sorted>(
     alloc: Global,
-    number: u16,
+    type_number: u16,
     feature: Feature,
     store: &mut Store<B>,
     tally: &mut B::Tally,
 ) -> Result<Option<Reply>, NoMemory>
     requires kept { HasState store.old.types (B.rows store.old.table) }
-    requires suits { Suits store.old.types (order.put number feature) }
+    requires suits { Suits store.old.types (order.put type_number feature) }
     ensures { (s : State) → Holds s store.old.types (B.rows store.old.table)
-        → IfOk result (λ reply. Executes (put_step number feature s) reply
+        → IfOk result (λ reply. Executes (put_step type_number feature s) reply
         store.new.types (B.rows store.new.table) (B.Tally.number tally.old)
         (B.Tally.number tally.new)) }
 {
-    let of = &store.types.as_slice()[usize::from(number)];
+    let of = &store.types.as_slice()[usize::from(type_number)];
     put_of(alloc, of, feature, &mut store.table, tally)
 }
 

@@ -26,20 +26,26 @@ use std::alloc::Global;
 /// Unbinds the features of which a filter is true, of the type with this number.
 pub(super) fn remove<B: Sorted>(
     alloc: Global,
-    number: u16,
+    type_number: u16,
     filter: Filter,
     store: &mut Store<B>,
     tally: &mut B::Tally,
 ) -> Result<Option<Reply>, NoMemory>
     requires kept { HasState store.old.types (B.rows store.old.table) }
-    requires suits { Suits store.old.types (order.remove number (tree filter)) }
+    requires suits { Suits store.old.types (order.remove type_number (tree filter)) }
     ensures { (s : State) → Holds s store.old.types (B.rows store.old.table)
-        → IfOk result (λ reply. Executes (remove_step number (tree filter) s) reply
+        → IfOk result (λ reply. Executes (remove_step type_number (tree filter) s) reply
         store.new.types (B.rows store.new.table)
         (B.Tally.number tally.old) (B.Tally.number tally.new)) }
 {
-    let of = &store.types.as_slice()[usize::from(number)];
-    remove_of(alloc, of, &plainly(number, filter), &mut store.table, tally)
+    let of = &store.types.as_slice()[usize::from(type_number)];
+    remove_of(
+        alloc,
+        of,
+        &plainly(type_number, filter),
+        &mut store.table,
+        tally,
+    )
 }
 
 // Unbinds those of this type.

@@ -54,7 +54,7 @@ fn read_named(
         return Err(refused(Code::E04));
     }
     match type_named(types, name) {
-        Some((number, of)) => read_question(alloc, number, of, hint, target, text),
+        Some((type_number, of)) => read_question(alloc, type_number, of, hint, target, text),
         None => Err(refused(Code::E06)),
     }
 }
@@ -62,38 +62,38 @@ fn read_named(
 // A question of the type with this number. The filter is read before the hint.
 fn read_question(
     alloc: Global,
-    number: u16,
+    type_number: u16,
     of: &FeatureType,
     hint: Option<&[u8]>,
     target: u64,
     text: &[u8],
 ) -> Result<Ask, LineFault>
-    ensures reads { ReadsAsk (ask_read number target
+    ensures reads { ReadsAsk (ask_read type_number target
         (spec.hinted of.now (option_map (λ name. name.now) hint.entry))
         (filter_outcome of.now text.now)) result }
-    ensures suits { IsQuestionAt number of.now result }
+    ensures suits { IsQuestionAt type_number of.now result }
 {
     match gm_ecql::read(alloc, of, text) {
-        Ok(filter) => with_hint(number, of, hint, target, filter),
+        Ok(filter) => with_hint(type_number, of, hint, target, filter),
         Err(why) => Err(filter_fault(why)),
     }
 }
 
 fn with_hint(
-    number: u16,
+    type_number: u16,
     of: &FeatureType,
     hint: Option<&[u8]>,
     target: u64,
     filter: Filter,
 ) -> Result<Ask, LineFault>
     requires { filters.Suits of.now (tree filter) }
-    ensures reads { ReadsAsk (ask_with number target (tree filter)
+    ensures reads { ReadsAsk (ask_with type_number target (tree filter)
         (spec.hinted of.now (option_map (λ name. name.now) hint.entry))) result }
-    ensures suits { IsQuestionAt number of.now result }
+    ensures suits { IsQuestionAt type_number of.now result }
 {
     match hinted(of, hint) {
         Some(hint) => Ok(Ask {
-            number,
+            number: type_number,
             hint,
             target,
             filter,

@@ -25,7 +25,7 @@ pub(crate) fn read_delete(
         return Err(refused(Code::E04));
     }
     match type_named(types, name) {
-        Some((number, of)) => read_identifier(alloc, number, of, id),
+        Some((type_number, of)) => read_identifier(alloc, type_number, of, id),
         None => Err(refused(Code::E06)),
     }
 }
@@ -33,16 +33,16 @@ pub(crate) fn read_delete(
 // An identifier of a feature of the type with this number.
 fn read_identifier(
     alloc: Global,
-    number: u16,
+    type_number: u16,
     of: &FeatureType,
     id: &[u8],
 ) -> Result<Command, LineFault>
-    ensures reads { Reads (delete_at number id.now) result }
-    ensures suits { SuitsAt number of.now result }
+    ensures reads { Reads (delete_at type_number id.now) result }
+    ensures suits { SuitsAt type_number of.now result }
 {
     let _number = of.number();
     match FeatureId::of(alloc, id) {
-        Ok(id) => Ok(Command::Delete(number, id)),
+        Ok(id) => Ok(Command::Delete(type_number, id)),
         Err(IdFault::Form) => Err(refused(Code::E12)),
         Err(IdFault::NoMemory) => Err(LineFault::NoMemory),
     }

@@ -23,7 +23,7 @@ pub(crate) fn read_describe(
         return Err(refused(Code::E04));
     }
     match type_named(types, name) {
-        Some((number, _)) => Ok(Command::Describe(number)),
+        Some((type_number, _)) => Ok(Command::Describe(type_number)),
         None => Err(refused(Code::E06)),
     }
 }

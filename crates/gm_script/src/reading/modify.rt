@@ -30,7 +30,7 @@ pub(crate) fn read_modify(
         return Err(refused(Code::E04));
     }
     match type_named(types, name) {
-        Some((number, of)) => read_new_value(alloc, number, of, text),
+        Some((type_number, of)) => read_new_value(alloc, type_number, of, text),
         None => Err(refused(Code::E06)),
     }
 }
@@ -38,28 +38,28 @@ pub(crate) fn read_modify(
 // A change of features of the type with this number.
 fn read_new_value(
     alloc: Global,
-    number: u16,
+    type_number: u16,
     of: &FeatureType,
     text: &[u8],
 ) -> Result<Command, LineFault>
-    ensures reads { Reads (modify_read of.now number (change_outcome of.now text.now)) result }
-    ensures suits { SuitsAt number of.now result }
+    ensures reads { Reads (modify_read of.now type_number (change_outcome of.now text.now)) result }
+    ensures suits { SuitsAt type_number of.now result }
 {
     match read_change(alloc, of, text) {
-        Ok(change) => with_bins(number, of, change),
+        Ok(change) => with_bins(type_number, of, change),
         Err(why) => Err(filter_fault(why)),
     }
 }
 
 // A change, where the attribute may take the value.
-fn with_bins(number: u16, of: &FeatureType, change: Change) -> Result<Command, LineFault>
+fn with_bins(type_number: u16, of: &FeatureType, change: Change) -> Result<Command, LineFault>
     requires holds { MayHold of.now change.attribute change.value }
     requires suits { filter.Suits of.now (tree change.filter) }
-    ensures reads { Reads (modify_with of.now number (meant change)) result }
-    ensures suits { SuitsAt number of.now result }
+    ensures reads { Reads (modify_with of.now type_number (meant change)) result }
+    ensures suits { SuitsAt type_number of.now result }
 {
     if keeps_bins(of, change.attribute, &change.value) {
-        Ok(Command::Modify(number, change))
+        Ok(Command::Modify(type_number, change))
     } else {
         Err(refused(Code::E11))
     }

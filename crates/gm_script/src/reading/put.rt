@@ -27,7 +27,7 @@ pub(crate) fn read_put(
         return Err(refused(Code::E04));
     }
     match type_named(types, name) {
-        Some((number, of)) => read_feature(alloc, number, of, row),
+        Some((type_number, of)) => read_feature(alloc, type_number, of, row),
         None => Err(refused(Code::E06)),
     }
 }
@@ -35,15 +35,15 @@ pub(crate) fn read_put(
 // A row of the type with this number.
 fn read_feature(
     alloc: Global,
-    number: u16,
+    type_number: u16,
     of: &FeatureType,
     row: &[u8],
 ) -> Result<Command, LineFault>
-    ensures reads { Reads (put_read number (row_of of.now row.now)) result }
-    ensures suits { SuitsAt number of.now result }
+    ensures reads { Reads (put_read type_number (row_of of.now row.now)) result }
+    ensures suits { SuitsAt type_number of.now result }
 {
     match read_row(alloc, of, row) {
-        Ok(feature) => Ok(Command::Put(number, feature)),
+        Ok(feature) => Ok(Command::Put(type_number, feature)),
         Err(why) => Err(row_fault(why)),
     }
 }

@@ -26,7 +26,7 @@ pub(crate) fn read_remove(
         return Err(refused(Code::E04));
     }
     match type_named(types, name) {
-        Some((number, of)) => read_wanted(alloc, number, of, text),
+        Some((type_number, of)) => read_wanted(alloc, type_number, of, text),
         None => Err(refused(Code::E06)),
     }
 }
@@ -34,15 +34,15 @@ pub(crate) fn read_remove(
 // A filter of the type with this number.
 fn read_wanted(
     alloc: Global,
-    number: u16,
+    type_number: u16,
     of: &FeatureType,
     text: &[u8],
 ) -> Result<Command, LineFault>
-    ensures reads { Reads (remove_read number (filter_outcome of.now text.now)) result }
-    ensures suits { SuitsAt number of.now result }
+    ensures reads { Reads (remove_read type_number (filter_outcome of.now text.now)) result }
+    ensures suits { SuitsAt type_number of.now result }
 {
     match gm_ecql::read(alloc, of, text) {
-        Ok(filter) => Ok(Command::Remove(number, filter)),
+        Ok(filter) => Ok(Command::Remove(type_number, filter)),
         Err(why) => Err(filter_fault(why)),
     }
 }

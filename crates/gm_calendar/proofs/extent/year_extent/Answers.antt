@@ -7,19 +7,19 @@ use Rattle.gm_calendar.proofs.extent.year_extent.Goals as goal
 pub day_from_1970-requires : goal.day_from_1970-requires
 day_from_1970-requires c =
     let d = c.date-first.result in
-    let year : d.year ≡ pos (1970 + c.args.number) = omega (arith, signed_casts) in
+    let year : d.year ≡ pos (1970 + c.args.bin_number) = omega (arith, signed_casts) in
     let month : d.month ≡ 1 = omega (arith, signed_casts) in
     let day : d.day ≡ 1 = omega (arith, signed_casts) in
-    let is = year_extent_lem d c.args.number year month day in
+    let is = year_extent_lem d c.args.bin_number year month day in
     omega (arith, signed_casts)
 
 pub returns : goal.returns
 returns c =
     let d = c.date-first.result in
-    let year : d.year ≡ pos (1970 + c.args.number) = omega (arith, signed_casts) in
+    let year : d.year ≡ pos (1970 + c.args.bin_number) = omega (arith, signed_casts) in
     let month : d.month ≡ 1 = omega (arith, signed_casts) in
     let day : d.day ≡ 1 = omega (arith, signed_casts) in
-    let is = year_extent_lem d c.args.number year month day in
+    let is = year_extent_lem d c.args.bin_number year month day in
     let long = days_in_year_bounds d.year in
     record {
       first_is = omega (arith, signed_casts);

@@ -14,5 +14,6 @@ pub returns : goal.returns
 returns c =
     let width : 1 * 2 ^ c.args.dimensions % 2 ^ 64 ≡ 2 ^ c.args.dimensions =
     one_shl c.args.dimensions 64 (omega arith) in
-    rw (shifted_one c.args.dimensions c.args.places c.requires.few c.requires.most)
-    (rw width (count_closed c.args.dimensions c.args.places c.requires.some c.requires.least))
+    rw (shifted_one c.args.dimensions c.args.sequence_places c.requires.few c.requires.most)
+    (rw width (count_closed c.args.dimensions c.args.sequence_places c.requires.some
+    c.requires.least))

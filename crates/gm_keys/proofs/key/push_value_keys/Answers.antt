@@ -9,7 +9,7 @@ use Rattle.gm_keys.proofs.key.push_value_keys.Goals as goal
 pub attributes-preserved : goal.attributes-preserved
 attributes-preserved c =
     let f = λ (kind : IndexKind). keys_in c.args.of.now kind c.args.feature.now in
-    let n = c.attributes.number in
+    let n = c.attributes.attribute in
     let before = flat_map f (attribute_indexes 0 n) in
     c.in_ok-push_key.ensures ∙ ap (λ x. x ++ f (Attr n)) c.attributes.invariant
     ∙ append_assoc c.args.keys.now.items before (f (Attr n))
@@ -18,11 +18,11 @@ attributes-preserved c =
 pub returns : goal.returns
 returns c =
     let f = λ (kind : IndexKind). keys_in c.args.of.now kind c.args.feature.now in
-    let all : c.attributes.number ≡ length c.args.of.now.attributes =
+    let all : c.attributes.attribute ≡ length c.args.of.now.attributes =
     omega (
       arith,
       c.attributes-test.false,
-      c.attributes.auto.number-end,
+      c.attributes.auto.attribute-end,
       c.len-count.ensures,
       ap length c.attributes-2.ensures.list,
     ) in

@@ -17,7 +17,7 @@ pub returns-in-Some : goal.returns-in-Some
 returns-in-Some c =
     let told = c.in-Some.ensures in
     subst (λ (o : Option (List ℕ)). IfOk c.form_key.result (λ key. key ≡ o))
-    (value_is c.args.of.now c.args.feature.now c.args.number c.in-Some.value.now
+    (value_is c.args.of.now c.args.feature.now c.args.attribute c.in-Some.value.now
     (told.lookup.3.1 value.Null
     ∙ (λ i. get_or (c.as_slice.ensures i) (c.from.ensures i) value.Null)))
     c.form_key.ensures
@@ -25,6 +25,6 @@ returns-in-Some c =
 pub returns-in-None : goal.returns-in-None
 returns-in-None c =
     let told = c.in-None.ensures in
-    value_is c.args.of.now c.args.feature.now c.args.number value.Null
+    value_is c.args.of.now c.args.feature.now c.args.attribute value.Null
     (told.lookup.4 (le_refl c.from.result) value.Null
     ∙ (λ i. get_or (c.as_slice.ensures i) (c.from.ensures i) value.Null))

@@ -15,7 +15,7 @@ bins-init c = record {
 pub returns-clause-value : goal.returns-clause-value
 unfolding bins_of
 returns-clause-value c =
-    none_left (is_met c.args.period c.args.intervals.now) c.bins.number (last_of c.args.period + 1)
+    none_left (is_met c.args.period c.args.intervals.now) c.bins.bin (last_of c.args.period + 1)
     c.bins.bins.items c.bins.invariant.value c.bins.invariant.within
     (λ number low high. c.end_bin-end.ensures.none number (behind _ _ _ c.bins-test.false low)
     (within _ _ high))
@@ -28,5 +28,5 @@ returns-clause-value c =
 
 pub returns-clause-numbered : goal.returns-clause-numbered
 returns-clause-numbered c =
-    all_numbered (is_met c.args.period c.args.intervals.now) c.bins.number (last_of c.args.period)
+    all_numbered (is_met c.args.period c.args.intervals.now) c.bins.bin (last_of c.args.period)
     c.bins.bins.items c.bins.invariant.value c.bins.invariant.within

@@ -6,6 +6,6 @@ use Rattle.gm_plan.proofs.bins.bins_of.Given as goal
 
 abbrev pub invariant-bins : goal.invariant-bins
 invariant-bins l = record {
-  value : l.bins.items ≡ filter (is_met l.period l.intervals) (range_with_len 0 l.number);
-  within : l.number ≤ last_of l.period + 1;
+  value : l.bins.items ≡ filter (is_met l.period l.intervals) (range_with_len 0 l.bin);
+  within : l.bin ≤ last_of l.period + 1;
 }

@@ -4,4 +4,5 @@ use Rattle.gm_plan.proofs.space.push_ranges.Given as goal
 
 abbrev pub invariant-runs : goal.invariant-runs
 invariant-runs l =
-    l.list.items ≡ l.fn.list.items ++ map (bin_range l.number l.found.level) (take l.i l.found.runs)
+    l.list.items
+    ≡ l.fn.list.items ++ map (bin_range l.bin_number l.found.level) (take l.i l.found.runs)

@@ -12,6 +12,6 @@ invariant-bins g l =
     λ number. bin_ranges (g.T.Tree.shape l.tree) number
     (windows_in l.extents.period l.extents.bits l.extents.boxes.now l.extents.intervals.now
     number) l.part in record {
-      list : l.list.items ++ flat_map ranges (drop l.number-index l.bins) ≡ flat_map ranges l.bins;
+      list : l.list.items ++ flat_map ranges (drop l.bin-index l.bins) ≡ flat_map ranges l.bins;
       known : All (IsKnown (g.T.Tree.shape l.tree) l.part) l.known.items;
     }

@@ -6,8 +6,8 @@ use Rattle.gm_plan.proofs.windows.push_windows.Given as goal
 abbrev pub invariant-intervals : goal.invariant-intervals
 invariant-intervals l =
     l.windows.items
-    ++ map (window_in l.period l.bits l.number l.extent)
-    (filter (meets_bin l.period l.number) (drop l.interval-index l.intervals))
+    ++ map (window_in l.period l.bits l.bin_number l.extent)
+    (filter (meets_bin l.period l.bin_number) (drop l.interval-index l.intervals))
     ≡ l.fn.windows.items
-    ++ map (window_in l.period l.bits l.number l.extent)
-    (filter (meets_bin l.period l.number) l.intervals)
+    ++ map (window_in l.period l.bits l.bin_number l.extent)
+    (filter (meets_bin l.period l.bin_number) l.intervals)

@@ -10,10 +10,10 @@ use Rattle.gm_plan.proofs.windows.window_in.Goals as goal
 
 pub offset_in-last-requires-clause-lies : goal.offset_in-last-requires-clause-lies
 offset_in-last-requires-clause-lies c =
-    subst (λ z. LiesIn c.args.period z c.args.number)
+    subst (λ z. LiesIn c.args.period z c.args.bin_number)
     (sym (to_z-of_z w64 c.end_in.result (record { sfits = c.end_in.type_inv })
     ∙ c.end_in.ensures))
-    (end_lies c.args.period c.args.number c.args.interval c.requires.met)
+    (end_lies c.args.period c.args.bin_number c.args.interval c.requires.met)
 
 pub returns : goal.returns
 returns c =
@@ -32,13 +32,13 @@ returns c =
     let u = c.time_cell.ensures
     ∙ ap (time_cell c.args.period c.args.bits)
     (c.offset_in-first.ensures.offset
-    ∙ ap (offset_in c.args.period c.args.number)
+    ∙ ap (offset_in c.args.period c.args.bin_number)
     (to_z-of_z w64 c.start_in.result (record { sfits = c.start_in.type_inv })
     ∙ c.start_in.ensures)) in
     let v = c.time_cell-2.ensures
     ∙ ap (time_cell c.args.period c.args.bits)
     (c.offset_in-last.ensures.offset
-    ∙ ap (offset_in c.args.period c.args.number)
+    ∙ ap (offset_in c.args.period c.args.bin_number)
     (to_z-of_z w64 c.end_in.result (record { sfits = c.end_in.type_inv })
     ∙ c.end_in.ensures)) in
     λ i. record {

@@ -4,5 +4,6 @@ use Rattle.gm_plan.proofs.windows.windows_in.Given as goal
 
 abbrev pub invariant-boxes : goal.invariant-boxes
 invariant-boxes l =
-    l.windows.items ++ windows_in l.period l.bits (drop l.extent-index l.boxes) l.intervals l.number
-    ≡ windows_in l.period l.bits l.boxes l.intervals l.number
+    l.windows.items
+    ++ windows_in l.period l.bits (drop l.extent-index l.boxes) l.intervals l.bin_number
+    ≡ windows_in l.period l.bits l.boxes l.intervals l.bin_number

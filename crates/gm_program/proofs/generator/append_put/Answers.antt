@@ -30,7 +30,7 @@ returns-clause-script c =
     let e1 : string_bytes c.append.new.script
     ≡ string_bytes c.args.script.now ++ codes "put gen g" = c.in_ok-append.ensures in
     let e2 : string_bytes c.append_number.new.script
-    ≡ string_bytes c.append.new.script ++ decimal c.args.number =
+    ≡ string_bytes c.append.new.script ++ decimal c.args.feature_number =
     c.in_ok-append_number.ensures
     ∙ ap (λ n. string_bytes c.append.new.script ++ decimal n) c.from.ensures in
     let e3 : string_bytes c.append-2.new.script
@@ -59,14 +59,14 @@ returns-clause-script c =
     c.in_ok-append_place.ensures
     ∙ (λ i. string_bytes c.append_second.new.script ++ place_text (x i) (y i)) in
     before (string_bytes c.args.script.now) (codes "put gen g")
-    (decimal c.args.number
+    (decimal c.args.feature_number
     ++ (codes ",n"
     ++ (decimal (drawn 100 (behind 1 start))
     ++ (codes "," ++ (decimal (drawn 1000 (behind 2 start))
     ++ (codes "," ++ (instant_text (second_of_2020 (drawn 31536000 (behind 3 start)))
     ++ (place_text (drawn 3600000001 (behind 4 start))
     (drawn 1800000001 (behind 5 start))))))))))
-    (before (string_bytes c.append.new.script) (decimal c.args.number)
+    (before (string_bytes c.append.new.script) (decimal c.args.feature_number)
     (codes ",n" ++ (decimal (drawn 100 (behind 1 start))
     ++ (codes "," ++ (decimal (drawn 1000 (behind 2 start))
     ++ (codes "," ++ (instant_text

@@ -4,4 +4,5 @@ use Rattle.gm_script.specs.Words.{is_blank}
 use Rattle.gm_script.proofs.words.blank_count.Given as goal
 
 abbrev pub invariant-bytes : goal.invariant-bytes
-invariant-bytes l = prefix_len is_blank l.text ≡ l.place + prefix_len is_blank (drop l.place l.text)
+invariant-bytes l =
+    prefix_len is_blank l.text ≡ l.byte_place + prefix_len is_blank (drop l.byte_place l.text)

@@ -5,4 +5,4 @@ use Rattle.gm_script.proofs.words.word_length.Given as goal
 
 abbrev pub invariant-bytes : goal.invariant-bytes
 invariant-bytes l =
-    prefix_len is_no_blank l.text ≡ l.place + prefix_len is_no_blank (drop l.place l.text)
+    prefix_len is_no_blank l.text ≡ l.byte_place + prefix_len is_no_blank (drop l.byte_place l.text)

@@ -9,8 +9,9 @@ pub returns : goal.returns
 returns g c = λ s holds.
     let types = c.args.store.now.types in
     let t = c.index-as_slice-from.result in
-    let there = type_there s types c.args.number t holds.state holds.same_types
-    (read_within types c.as_slice.result.now c.args.number c.from.result t c.as_slice.ensures.list
+    let there = type_there s types c.args.type_number t holds.state holds.same_types
+    (read_within types c.as_slice.result.now c.args.type_number c.from.result t
+    c.as_slice.ensures.list
     c.from.ensures c.index-as_slice-from.is c.requires.suits.there) in
     subst (λ (n : ℕ). IfOk c.delete_of.result
     (λ reply. Executes (delete_step n c.args.id s) reply types

@@ -14,7 +14,7 @@ pub parts-preserved : goal.parts-preserved
 parts-preserved c = record {
   place = omega (arith, c.parts.invariant.place);
   lines = lines_next c.args.of.now c.args.target c.args.parts.now c.parts.part-index
-      (c.parts.place + 1) c.part-item.result c.parts.lines.items c.push_part.new.lines.items _
+      (c.parts.part_place + 1) c.part-item.result c.parts.lines.items c.push_part.new.lines.items _
       c.parts-test.true c.part-item.is (omega (arith, c.parts.invariant.place))
       c.in_ok-push_part.ensures c.parts.invariant.lines;
 }

@@ -17,8 +17,8 @@ modify_of-requires-clause-typed g c κs within =
     let t = c.index-as_slice-from.result in
     let s = c.requires.kept.0 in
     let holds = c.requires.kept.1 in
-    let there = type_there s types c.args.number t holds.state holds.same_types
-    (read_known types c.as_slice.result.now c.args.number c.from.result t c.requires.suits.of
+    let there = type_there s types c.args.type_number t holds.state holds.same_types
+    (read_known types c.as_slice.result.now c.args.type_number c.from.result t c.requires.suits.of
     c.as_slice.ensures.list c.from.ensures c.index-as_slice-from.is c.requires.suits.there) in
     (s, type_of s t types (g.B.Sorted.rows c.args.store.now.table) holds there.0)
 
@@ -27,8 +27,8 @@ modify_of-requires-clause-plain g c κs within =
     let types = c.args.store.now.types in
     let t = c.index-as_slice-from.result in
     let holds = c.requires.kept.1 in
-    let there = type_there c.requires.kept.0 types c.args.number t holds.state holds.same_types
-    (read_known types c.as_slice.result.now c.args.number c.from.result t c.requires.suits.of
+    let there = type_there c.requires.kept.0 types c.args.type_number t holds.state holds.same_types
+    (read_known types c.as_slice.result.now c.args.type_number c.from.result t c.requires.suits.of
     c.as_slice.ensures.list c.from.ensures c.index-as_slice-from.is c.requires.suits.there) in
     let wanted : tree c.plainly-ask.result.filter ≡ tree c.args.change.filter =
     ap (λ (a : Asked). a.wanted) c.plainly-ask.ensures in
@@ -40,7 +40,7 @@ modify_of-requires-clause-suits g c κs within =
     let types = c.args.store.now.types in
     let t = c.index-as_slice-from.result in
     let of = c.requires.suits.of in
-    let known = read_known types c.as_slice.result.now c.args.number c.from.result t of
+    let known = read_known types c.as_slice.result.now c.args.type_number c.from.result t of
     c.as_slice.ensures.list c.from.ensures c.index-as_slice-from.is c.requires.suits.there in
     let same : of ≡ t = same_some of t (sym c.requires.suits.there ∙ known) in
     let wanted : tree c.plainly-ask.result.filter ≡ tree c.args.change.filter =
@@ -52,7 +52,8 @@ pub modify_of-requires-clause-takes : goal.modify_of-requires-clause-takes
 modify_of-requires-clause-takes g c κs within =
     let t = c.index-as_slice-from.result in
     let of = c.requires.suits.of in
-    let known = read_known c.args.store.now.types c.as_slice.result.now c.args.number c.from.result
+    let known = read_known c.args.store.now.types c.as_slice.result.now c.args.type_number
+    c.from.result
     t of c.as_slice.ensures.list c.from.ensures c.index-as_slice-from.is
     c.requires.suits.there in
     let same : of ≡ t = same_some of t (sym c.requires.suits.there ∙ known) in
@@ -63,8 +64,8 @@ pub returns : goal.returns
 returns g c = λ s holds.
     let types = c.args.store.now.types in
     let t = c.index-as_slice-from.result in
-    let there = type_there s types c.args.number t holds.state holds.same_types
-    (read_known types c.as_slice.result.now c.args.number c.from.result t c.requires.suits.of
+    let there = type_there s types c.args.type_number t holds.state holds.same_types
+    (read_known types c.as_slice.result.now c.args.type_number c.from.result t c.requires.suits.of
     c.as_slice.ensures.list c.from.ensures c.index-as_slice-from.is c.requires.suits.there) in
     let wanted : tree c.plainly-ask.result.filter ≡ tree c.args.change.filter =
     ap (λ (a : Asked). a.wanted) c.plainly-ask.ensures in

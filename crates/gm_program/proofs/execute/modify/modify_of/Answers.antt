@@ -34,7 +34,7 @@ changes-requires-clause-fit g c =
 pub batch_of_all-requires-clause-fit : goal.batch_of_all-requires-clause-fit
 batch_of_all-requires-clause-fit g c =
     let t = c.args.of.now in
-    let place = c.args.place in
+    let place = c.args.attribute in
     let v = c.args.value.now in
     let s = c.requires.typed.0 in
     let own = c.requires.typed.1 in
@@ -54,7 +54,7 @@ batch_of_all-requires-clause-fit g c =
 pub batch_of_all-requires-clause-apart : goal.batch_of_all-requires-clause-apart
 batch_of_all-requires-clause-apart g c =
     let t = c.args.of.now in
-    let place = c.args.place in
+    let place = c.args.attribute in
     let v = c.args.value.now in
     let s = c.requires.typed.0 in
     let own = c.requires.typed.1 in
@@ -73,7 +73,7 @@ batch_of_all-requires-clause-apart g c =
 pub has_room-requires : goal.has_room-requires
 has_room-requires g c =
     let t = c.args.of.now in
-    let place = c.args.place in
+    let place = c.args.attribute in
     let v = c.args.value.now in
     let s = c.requires.typed.0 in
     let own = c.requires.typed.1 in
@@ -93,7 +93,7 @@ has_room-requires g c =
 pub returns-in-Refused : goal.returns-in-Refused
 returns-in-Refused g c = λ s types holds typed.
     let t = c.args.of.now in
-    let place = c.args.place in
+    let place = c.args.attribute in
     let v = c.args.value.now in
     let wanted = tree c.args.ask.now.filter in
     let rows = g.B.Sorted.rows c.args.table.now in
@@ -110,7 +110,7 @@ returns-in-Refused g c = λ s types holds typed.
 pub returns-then-not-room : goal.returns-then-not-room
 returns-then-not-room g c = λ s types holds typed.
     let t = c.args.of.now in
-    let place = c.args.place in
+    let place = c.args.attribute in
     let v = c.args.value.now in
     let wanted = tree c.args.ask.now.filter in
     let rows = g.B.Sorted.rows c.args.table.now in
@@ -147,7 +147,7 @@ returns-then-not-room g c = λ s types holds typed.
 pub returns-in_ok-apply-in-Features : goal.returns-in_ok-apply-in-Features
 returns-in_ok-apply-in-Features g c = λ s types holds typed.
     let t = c.args.of.now in
-    let place = c.args.place in
+    let place = c.args.attribute in
     let v = c.args.value.now in
     let wanted = tree c.args.ask.now.filter in
     let rows = g.B.Sorted.rows c.args.table.now in

@@ -9,8 +9,8 @@ pub returns : goal.returns
 returns g c = λ s holds.
     let types = c.args.store.now.types in
     let t = c.index-as_slice-from.result in
-    let there = type_there s types c.args.number t holds.state holds.same_types
-    (read_known types c.as_slice.result.now c.args.number c.from.result t c.requires.suits.of
+    let there = type_there s types c.args.type_number t holds.state holds.same_types
+    (read_known types c.as_slice.result.now c.args.type_number c.from.result t c.requires.suits.of
     c.as_slice.ensures.list c.from.ensures c.index-as_slice-from.is c.requires.suits.there) in
     subst (λ (n : ℕ). IfOk c.put_of.result
     (λ reply. Executes (put_step n c.args.feature s) reply types
