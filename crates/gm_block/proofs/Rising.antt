@@ -40,12 +40,6 @@ rising-push (first ∷ rows) row rising above = (
   rising-push rows row rising.1 (later_above first rows row.key above),
 )
 
-member : (first : List ℕ) (rows : List Row) (row : Row) (later : List Row)
-    → AllByRecursion (λ key. slice_cmp nat_cmp first key ≡ Less)
-    (keys_of (map pair_of (rows ++ row ∷ later))) → slice_cmp nat_cmp first row.key ≡ Less
-member first [] row later below = below.0
-member first (other ∷ rows) row later below = member first rows row later below.1
-
 -- in rows whose keys rise each is above those before it
 pub above-from : (rows : List Row) (row : Row) (later : List Row)
     → IsRising (map pair_of (rows ++ row ∷ later)) → IsAbove rows row.key

@@ -61,11 +61,6 @@ front_le (suc n) (x ∷ whole) =
     ap (λ o. is_le (ordering_then o (C (take n whole) whole))) (tied_itself nat_cmp_total x)
     ∙ front_le n whole
 
-eq_is : (o : Ordering) → is_eq o ≡ true → o ≡ Equal
-eq_is Less h = absurd (true≢false (sym h))
-eq_is Equal h = refl
-eq_is Greater h = absurd (true≢false (sym h))
-
 -- what compares as equal is the same
 pub same_bytes : (a b : Bytes) → is_eq (C a b) ≡ true → a ≡ b
 same_bytes a b h = (bytes_decides a b).0 (sym (is_eq-slice_cmp a b) ∙ h)

@@ -19,9 +19,6 @@ pub same_err : {A : Type 0} (e f : FilterFault)
     → ◌≡◌ {A = Result A FilterFault} (Err e) (Err f) → e ≡ f
 same_err e f h = cc
 
-same_ok : {A : Type 0} (x y : A) → ◌≡◌ {A = Result A FilterFault} (Ok x) (Ok y) → x ≡ y
-same_ok x y h = cc
-
 pub no_ok : {A P : Type 0} (x : A) (e : FilterFault)
     → ◌≡◌ {A = Result A FilterFault} (Ok x) (Err e) → P
 no_ok x e h = absurd (cc)

@@ -46,10 +46,6 @@ symbol_first s (a_symbol r ∷ ts) rest h = elim (chosen (symbol_place r == symb
   | inr p ↦ no_some rest p.1
 ]
 
-pub symbol_found : (s : Symbol) (rest : List Seen) → after_symbol s (a_symbol s ∷ rest) ≡ Some rest
-symbol_found s rest =
-    ap (λ t. cond t (Some rest) None) (eq-eqb (symbol_place s) (symbol_place s) refl)
-
 pub name_first : (ts rest : List Seen) (name : List ℕ) → name_at ts ≡ Some (name, rest)
     → ts ≡ a_name name ∷ rest
 name_first [] rest name h = no_some (name, rest) h

@@ -45,10 +45,6 @@ pub chose : {A B : Type 0} (o : Option A) (f : A → B) (other z : B) → or_els
 chose None f other z h = inr (refl, h)
 chose (Some x) f other z h = inl (x, refl, h)
 
-pub both_are : {A B : Type 0} (x y : A) (r s : B) → ◌≡◌ {A = A × B} (x, r) (y, s)
-    → (x ≡ y) × (r ≡ s)
-both_are x y r s e = (ap (λ p. p.0) e, ap (λ p. p.1) e)
-
 truth_first : (ts : List Seen) (r : Bool × List Seen) → truth_at ts ≡ Some r
     → ts ≡ literal_token (of_truth r.0) ∷ r.1
 truth_first ts r h = elim (chose (after_keyword keyword.True ts) _ _ _ h) [

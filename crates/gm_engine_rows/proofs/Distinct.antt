@@ -95,9 +95,6 @@ no_attribute k from count apart member = apart (ap index_number (from_on from co
 apart_numbers : (a b : IndexKind) → (index_number a ≡ index_number b → ⊥) → a ≡ b → ⊥
 apart_numbers a b apart same = apart (ap index_number same)
 
-differ : (n m : ℕ) → n ≡ m → (n ≡ m → ⊥) → ⊥
-differ n m is isnt = isnt is
-
 all_once : (t : Specification) → NoneTwice (all_indexes t)
 all_once t =
     let n = length t.attributes in

@@ -102,9 +102,6 @@ abbrev IsSmall : IndexKind → Type 0
 IsSmall (Attr number) = number < 256 ^ 2
 IsSmall _ = Unit {0}
 
-differ : (a b : ℕ) {A : Type 0} → a ≡ b → (a ≡ b → ⊥) → A
-differ a b same apart = absurd (apart same)
-
 same_kind : Numbers → (j k : IndexKind) (x y : List ℕ) → IsSmall j → IsSmall k
     → index_number j ≡ index_number k → attribute_number j ++ x ≡ attribute_number k ++ y
     → (j ≡ k) × (x ≡ y)

@@ -60,18 +60,3 @@ no_text_is_a_front a b s t some some' same =
     cut a b s t (recursion_from_All (λ byte. 0 < byte) a some)
     (recursion_from_All (λ byte. 0 < byte) b some')
     (sym (append_assoc a (0 ∷ []) s) ∙ same ∙ append_assoc b (0 ∷ []) t)
-
-pub truths_in_order : (a b : Bool) (s t : List ℕ)
-    → slice_cmp nat_cmp (bool_bytes a ++ s) (bool_bytes b ++ t)
-    ≡ ordering_then (bool_cmp a b) (slice_cmp nat_cmp s t)
-truths_in_order false false s t = refl
-truths_in_order false true s t = refl
-truths_in_order true false s t = refl
-truths_in_order true true s t = refl
-
-pub no_truth_is_a_front : (a b : Bool) (s t : List ℕ) → bool_bytes a ++ s ≡ bool_bytes b ++ t
-    → (a ≡ b) × (s ≡ t)
-no_truth_is_a_front false false s t same = (refl, cc)
-no_truth_is_a_front false true s t same = let is : ◌≡◌ {A = ℕ} 0 1 = cc in absurd (omega arith)
-no_truth_is_a_front true false s t same = let is : ◌≡◌ {A = ℕ} 1 0 = cc in absurd (omega arith)
-no_truth_is_a_front true true s t same = (refl, cc)

@@ -46,11 +46,6 @@ none_last true true z h = h
 none_last true false z h = refl
 none_last false y z h = refl
 
-none_within : (x y z w : Bool) → (z && w) ≡ false → (x && (y && (z && w))) ≡ false
-none_within true true z w h = h
-none_within true false z w h = refl
-none_within false y z w h = refl
-
 pub record SmallRun (low high : ℕ) : Type 0 where
   pub rises : low ≤ high
   pub low_small : low < 2 ^ 64

@@ -15,10 +15,6 @@ one_more count place state within =
     let is : count - place ≡ suc (count - (place + 1)) = omega (arith, within) in
     ap (λ n. put_lines n (place + 1) state) is
 
-pub no_more : (count number state : ℕ) → put_lines (count - count) number state ≡ []
-no_more count number state = let is : count - count ≡ zero = omega arith in
-    ap (λ n. put_lines n number state) is
-
 pub put_next : (held text : List ℕ) (count place state : ℕ) (all : List ℕ) → place < count
     → held ++ put_lines (count - place) (place + 1) state ≡ all
     → text ≡ held ++ put_line (place + 1) state

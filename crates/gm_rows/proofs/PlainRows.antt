@@ -174,13 +174,3 @@ at_other row fields start place low h other =
     (sym (range_more row start place low h))
     ∙ ap (λ n. cut_from fields (slice_range row start (place + 1)) (drop n row))
     (sym (add-one place))
-
-pub at_end : (row field : List ℕ) (fields : List (List ℕ)) (start place : ℕ) → length row ≤ place
-    → place ≤ length row → field ≡ drop start row
-    → cut_from fields (slice_range row start place) (drop place row) ≡ fields ++ field ∷ []
-at_end row field fields start place past within is =
-    ap (cut_from fields (slice_range row start place)) (drop_all place row past)
-    ∙ cut-end fields (slice_range row start place)
-    ∙ ap (λ (f : List ℕ). fields ++ f ∷ [])
-    (take_all (place - start) (drop start row) (let l = length-drop start row in omega (arith, l))
-    ∙ sym is)

@@ -95,14 +95,6 @@ rising_changed key bytes others xs ys rising =
 turned_round : (a b : List ℕ) → slice_cmp nat_cmp a b ≡ Less → is_eq (slice_cmp nat_cmp b a) ≡ false
 turned_round a b less = ap is_eq (nat_list_cmp_total.antisymm b a ∙ ap ordering_reverse less)
 
-none_before : (key : List ℕ) (xs : Rows)
-    → AllByRecursion (λ other. slice_cmp nat_cmp other key ≡ Less) (keys_of xs)
-    → at_key key xs ≡ None
-none_before key [] below = refl
-none_before key (x ∷ xs) below =
-    ap (λ b. cond b (Some x.1) (at_key key xs)) (turned_round x.0 key below.0)
-    ∙ none_before key xs below.1
-
 at_back : (key : List ℕ) (xs ys : Rows)
     → AllByRecursion (λ other. slice_cmp nat_cmp other key ≡ Less) (keys_of xs)
     → at_key key (xs ++ ys) ≡ at_key key ys
