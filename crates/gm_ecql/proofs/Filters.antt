@@ -40,6 +40,31 @@ filter_ok s text t h =
     ok_is (document s) (λ j. j.faults) (λ j. j.meaning) (IsFilterOf s) (of_document s)
     (to_document s) text t h
 
+pub filter_found : (s : Specification) (text : List ℕ) (t : Tree) → filter_outcome s text ≡ Ok t
+    → KeepsLimits text × SpellsFilter s text t
+filter_found s text t h =
+    let o = filter_ok s text t h in (
+      keeps_limits (document s) (λ j. j.faults) (λ j. j.meaning) (IsFilterOf s) (of_document s)
+          (to_document s) text o.0 o.1,
+      record {
+        tokens = o.1.0;
+        judged = o.0;
+        lexed = o.1.1;
+        parsed = o.1.3;
+        sound = o.2;
+        means = o.3;
+      },
+    )
+
+pub filter_only : (s : Specification) (text : List ℕ) (t : Tree) → KeepsLimits text
+    → SpellsFilter s text t → filter_outcome s text ≡ Ok t
+unfolding filter_outcome
+filter_only s text t limits f =
+    only_ok (document s) (λ j. j.faults) (λ j. j.meaning) (IsFilterOf s) (of_document s)
+    (to_document s) text f.judged
+    (f.tokens, f.lexed, limits f.tokens f.lexed, f.parsed) f.sound
+    ∙ ap (λ z. Ok z) (sym f.means)
+
 pub filter_answer : (s : Specification) (text : List ℕ) (r : Result Filter FilterFault)
     → Answers (λ f. tree f) (filter_outcome s text) r → IsAnswer s text r
 filter_answer s text (Ok f) a = filter_ok s text (tree f) a

@@ -77,6 +77,11 @@ pub outline_moved : (wanted other : Option Specification) (r : Result Outline Ha
     → OutlineReads wanted r → OutlineReads other r
 outline_moved wanted other r e h = subst (λ (w : Option Specification). OutlineReads w r) e h
 
+pub no_attributes : (name : List ℕ) (number : ℕ) (stars : List Bool) (given : Option (List Datum))
+    (o : Option (List Attribute)) → o ≡ None
+    → outline_with name number stars o given ≡ None
+no_attributes name number stars given o e = ap (λ a. outline_with name number stars a given) e
+
 pub no_data : (name : List ℕ) (number : ℕ) (stars : List Bool)
     (attributes : Option (List Attribute)) → outline_with name number stars attributes None ≡ None
 no_data name number stars None = refl

@@ -25,7 +25,8 @@ returns-in-Text c = λ v says sound.
     let text = c.in-Text.text.now in
     let is : v ≡ value.Text text = rw c.in-Text.is at says in
     let utf8 = c.stored_texts_are_utf8.ensures.text text (ap is_sound (sym is) ∙ sound) in
-    pushed_as c.append_text.result (string_bytes c.args.row.now) (string_bytes c.append_text.new.row)
+    pushed_as c.append_text.result (string_bytes c.args.row.now)
+    (string_bytes c.append_text.new.row)
     (printed text) v (value.Text text) is refl (c.append_text.ensures utf8)
 
 pub returns-in-Integer : goal.returns-in-Integer
@@ -44,14 +45,16 @@ returns-in-Long c = λ v says sound.
     let is : v ≡ value.Long number = rw c.in-Long.is at says in
     let fits : FitsSigned w64 number = search rules in
     let same = ap (λ (z : ℤ). printed (signed_decimal z)) (to_z-of_z w64 number fits) in
-    pushed_as c.append_long.result (string_bytes c.args.row.now) (string_bytes c.append_long.new.row) _
+    pushed_as c.append_long.result (string_bytes c.args.row.now)
+    (string_bytes c.append_long.new.row) _
     v (value.Long number) is same c.append_long.ensures
 
 pub returns-in-Boolean : goal.returns-in-Boolean
 returns-in-Boolean c = λ v says sound.
     let truth = c.in-Boolean.truth in
     let is : v ≡ value.Boolean truth = rw c.in-Boolean.is at says in
-    pushed_as c.append_field.result (string_bytes c.args.row.now) (string_bytes c.append_field.new.row)
+    pushed_as c.append_field.result (string_bytes c.args.row.now)
+    (string_bytes c.append_field.new.row)
     (printed c.truth_text.result.now) v (value.Boolean truth) is
     (ap printed c.truth_text.ensures) c.append_field.ensures
 

@@ -1,5 +1,5 @@
 use Rattle.std.proofs.Common.{Some, sym, ◌∙◌, ap}
-use Rattle.gm_types.specs.Reading.{attributes_of, stars_of, outline_with}
+use Rattle.gm_types.specs.Reader.{attributes_of, stars_of, outline_with}
 use Rattle.gm_types.proofs.Outlined.{outline_stopped, outline_moved, no_attributes}
 use Rattle.gm_types.proofs.reader.outline_with.Goals as goal
 
