@@ -23,21 +23,10 @@ or_swap true false = refl
 or_swap false true = refl
 or_swap false false = refl
 
--- what settles an 'or', and what is left of one
+-- what settles an 'or'
 pub by_second : (seen e v : Bool) → seen ≡ v → seen ≡ true → seen ≡ (e || v)
 by_second seen true v is at = at
 by_second seen false v is at = is
-
-pub by_first_two : (seen e v w : Bool) → seen ≡ (e || v) → seen ≡ true → seen ≡ (e || (v || w))
-by_first_two seen true v w is at = at
-by_first_two seen false true w is at = at
-by_first_two seen false false w is at = absurd (cc)
-
-pub by_third : (seen last e v w : Bool) → seen ≡ (e || v) → seen ≡ false → last ≡ w
-    → last ≡ (e || (v || w))
-by_third seen last true v w is at third = absurd (cc)
-by_third seen last false true w is at third = absurd (cc)
-by_third seen last false false w is at third = third
 
 or_across : (a b c d : Bool) → ((a || b) || (c || d)) ≡ ((a || c) || (b || d))
 or_across true b c d = refl

@@ -90,16 +90,16 @@ fn is_lone_in(point: Point, closed: &ClosedBox) -> bool
     is_in_box(point, closed.area)
 }
 
+// A vertex in the box, or a corner in a polygon, settles it without a look at the edges.
 fn have_common_point(geometry: &Bounded<'_>, closed: &ClosedBox) -> bool
     ensures { result ≡ do_intersect geometry.now.geometry.now (box_area closed.now.area) }
 {
-    reaches_into(geometry.geometry, closed) || any_point(geometry, &closed.corners())
+    has_inner_vertex(geometry, closed) || any_edge(closed, geometry.geometry)
 }
 
-// A vertex in the box settles it without a look at the edges.
-fn reaches_into(geometry: &Geometry, closed: &ClosedBox) -> bool
-    ensures { result ≡ spec.has_edge_on geometry.now (box_area closed.now.area) ||
-        spec.has_vertex_in geometry.now (box_area closed.now.area) }
+fn has_inner_vertex(geometry: &Bounded<'_>, closed: &ClosedBox) -> bool
+    ensures { result ≡ spec.has_vertex_in geometry.now.geometry.now (box_area closed.now.area) ||
+        spec.has_vertex_in (box_area closed.now.area) geometry.now.geometry.now }
 {
-    any_vertex(closed, geometry) || any_edge(closed, geometry)
+    any_vertex(closed, geometry.geometry) || any_point(geometry, &closed.corners())
 }
