@@ -5,7 +5,7 @@ ghost use Rattle.std.specs.Int.{to_be_bytes, w32};
 ghost use Rattle.gm_block.specs.Block.{IsBlock, IsAbove, AreRows, block_bytes};
 ghost use Rattle.gm_table.specs.declared.row.Row.{Row};
 
-use crate::parts::{append_number, append_part, read_number, read_row};
+use crate::parts::{put_number, put_part, read_number, read_row};
 use gm_base::{Bytes, NoMemory};
 use gm_table::{Row, RowList};
 use std::alloc::Global;
@@ -24,10 +24,10 @@ pub fn write_block(alloc: Global, rows: &RowList) -> Result<Bytes, NoMemory>
     ensures { IfOk result (λ bytes. bytes ≡ block_bytes rows.now) }
 {
     let mut text = Bytes::from_slice(alloc, MARK)?;
-    append_number(&mut text, rows.len() as u32)?;
+    put_number(&mut text, rows.len() as u32)?;
     for row in rows.as_slice() {
-        append_part(&mut text, row.key.as_slice())?;
-        append_part(&mut text, row.bytes.as_slice())?;
+        put_part(&mut text, row.key.as_slice())?;
+        put_part(&mut text, row.bytes.as_slice())?;
     }
     Ok(text)
 }

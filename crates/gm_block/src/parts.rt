@@ -58,7 +58,7 @@ pub(crate) fn read_row(bytes: &[u8]) -> Option<(Lent<'_>, &[u8])>
 }
 
 /// Appends a number in four bytes.
-pub(crate) fn append_number(text: &mut Bytes, number: u32) -> Result<(), NoMemory>
+pub(crate) fn put_number(text: &mut Bytes, number: u32) -> Result<(), NoMemory>
     ensures ok { OnOk result (text.new ≡ text.old ++ to_be_bytes w32 number) }
     ensures err { OnErr result (text.new ≡ text.old) }
 {
@@ -66,10 +66,10 @@ pub(crate) fn append_number(text: &mut Bytes, number: u32) -> Result<(), NoMemor
 }
 
 /// Appends a part: its length, and its bytes.
-pub(crate) fn append_part(text: &mut Bytes, part: &[u8]) -> Result<(), NoMemory>
+pub(crate) fn put_part(text: &mut Bytes, part: &[u8]) -> Result<(), NoMemory>
     requires { length part.now < 2 ^ 32 }
     ensures { OnOk result (text.new ≡ text.old ++ part_bytes part.now) }
 {
-    append_number(text, part.len() as u32)?;
+    put_number(text, part.len() as u32)?;
     text.append(part)
 }

@@ -6,7 +6,7 @@ mod geometry;
 mod laws;
 mod number;
 mod point;
-mod printing;
+mod printer;
 mod validity;
 
 pub use extent::{bounds, high_corner, low_corner};
@@ -14,5 +14,5 @@ pub use geometry::{Areas, Geometry, Lines, Points, Rings};
 pub use laws::{has_number_bytes, numbers_are_spelled, reads_back};
 pub use number::{NUMBER_LIMIT, NumberFault, read_fixed};
 pub use point::{Box2, Point};
-pub use printing::{append_fixed, print_fixed};
+pub use printer::{append_fixed, print_fixed};
 pub use validity::{GeomFault, POINT_LIMIT, check};

@@ -15,9 +15,9 @@ loop-row-preserved c =
     let is : row ≡ get_or rows c.loop-row.row-index row =
     c.row-item.is ∙ ap (λ all. get_or all c.loop-row.row-index row) same in
     let body = rows_bytes (take c.loop-row.row-index rows) in
-    c.in_ok-append_part-2.ensures
+    c.in_ok-put_part-2.ensures
     ∙ ap (λ text. text ++ part_bytes c.as_slice-in-loop-row.result.now)
-    (c.in_ok-append_part.ensures
+    (c.in_ok-put_part.ensures
     ∙ ap (λ text. text ++ part_bytes c.as_slice.result.now) c.loop-row.invariant)
     ∙ laid (codes "GMBK0001") (to_be_bytes w32 (length rows)) body
     (part_bytes c.as_slice.result.now) (part_bytes c.as_slice-in-loop-row.result.now)

@@ -2,7 +2,7 @@ use Rattle.std.proofs.Common.{arith, ◌^◌, ◌<◌}
 use Rattle.std.specs.String.{string_bytes}
 use Rattle.gm_base.proofs.Options.{on_ok}
 use Rattle.gm_geom.proofs.Pieces.{last_digit, only_digit}
-use Rattle.gm_geom.proofs.printing.+append_whole.Goals as goal
+use Rattle.gm_geom.proofs.printer.+append_whole.Goals as goal
 
 pub returns-then-whole-lt10-clause-text : goal.returns-then-whole-lt10-clause-text
 returns-then-whole-lt10-clause-text t c =

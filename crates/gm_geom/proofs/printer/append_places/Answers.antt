@@ -4,7 +4,7 @@ use Rattle.std.specs.String.{string_bytes}
 use Rattle.gm_geom.proofs.Numbers.{pow_pos}
 use Rattle.gm_geom.proofs.Pieces.{begins_further}
 use Rattle.gm_geom.proofs.Places.{places_room, next_digit, with_next, with_none}
-use Rattle.gm_geom.proofs.printing.append_places.Goals as goal
+use Rattle.gm_geom.proofs.printer.append_places.Goals as goal
 
 pub nonzero_div-rest : goal.nonzero_div-rest
 nonzero_div-rest c = omega (arith, c.pow-unit.ensures, pow_pos (c.places.places - 1))

@@ -1,7 +1,7 @@
 use Rattle.std.proofs.Common.{◌≡◌, ◌++◌, ◌^◌, ◌<◌, ◌≤◌}
 use Rattle.std.specs.String.{string_bytes}
 use Rattle.gm_geom.specs.Number.{BeginsWith, places_of}
-use Rattle.gm_geom.proofs.printing.append_places.Given as goal
+use Rattle.gm_geom.proofs.printer.append_places.Given as goal
 
 abbrev pub invariant-places : goal.invariant-places
 invariant-places l = record {

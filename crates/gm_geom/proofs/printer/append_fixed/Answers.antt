@@ -5,7 +5,7 @@ use Rattle.std.specs.Fmt.{decimal}
 use Rattle.gm_base.proofs.Options.{on_ok}
 use Rattle.gm_geom.specs.Number.{fraction_text, minus_text, degree}
 use Rattle.gm_geom.proofs.Pieces.{three_pieces}
-use Rattle.gm_geom.proofs.printing.append_fixed.Goals as goal
+use Rattle.gm_geom.proofs.printer.append_fixed.Goals as goal
 
 pub returns-clause-text : goal.returns-clause-text
 returns-clause-text c =

@@ -1,7 +1,7 @@
 use Rattle.std.proofs.Common.{◌≡◌, ap, ◌∙◌, rules}
 use Rattle.gm_geom.specs.Number.{fixed_of, fixed_text}
 use Rattle.gm_geom.proofs.RoundTrip.{reads_again}
-use Rattle.gm_geom.proofs.printing.print_fixed.Goals as goal
+use Rattle.gm_geom.proofs.printer.print_fixed.Goals as goal
 
 pub returns-clause-reads : goal.returns-clause-reads
 returns-clause-reads c =
