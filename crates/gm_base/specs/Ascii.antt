@@ -1,5 +1,8 @@
--- Bytes of ASCII that texts are written with, beside letters and digits.
+-- Bytes that texts and keys are written with: of ASCII, beside letters and digits, and the last.
 use Rattle.std.specs.Prelude.{ℕ, ◌+◌, ◌-◌, ◌*◌}
+
+abbrev pub null_byte : ℕ
+null_byte = 0
 
 abbrev pub tab : ℕ
 tab = 9
@@ -84,6 +87,9 @@ small_e = 101
 
 abbrev pub delete : ℕ
 delete = 127
+
+abbrev pub last_byte : ℕ
+last_byte = 255
 
 -- a number with one more digit behind it
 abbrev pub next_digit : ℕ → ℕ → ℕ

@@ -3,6 +3,7 @@ ghost use Rattle.std.specs.Prelude.{◌≡◌, ◌≤◌, ℕ, List, ◌++◌, �
 ghost use Rattle.std.specs.Prelude.{IsTrue, MatchOption, length, codes};
 ghost use Rattle.std.specs.Int.{to_be_bytes, w32};
 ghost use Rattle.gm_block.specs.Block.{IsBlock, IsAbove, AreRows, block_bytes};
+ghost use Rattle.gm_table.specs.Blocks.{most_rows};
 ghost use Rattle.gm_table.specs.declared.row.Row.{Row};
 
 use crate::parts::{put_number, put_part, read_number, read_row};
@@ -53,7 +54,7 @@ fn read_head(bytes: &[u8]) -> Option<(u32, &[u8])>
     ensures { MatchOption result
         ((rows : List Row) → IsBlock rows → bytes.now ≡ block_bytes rows → ⊥)
         (λ it. (bytes.now ≡ codes "GMBK0001" ++ (to_be_bytes w32 it.0 ++ it.1.now)) × (1 ≤ it.0)
-        × (it.0 ≤ 4096)) }
+        × (it.0 ≤ most_rows)) }
 {
     if bytes.len() < MARK.len() {
         return None;

@@ -2,6 +2,7 @@
 use Rattle.std.specs.Prelude.{ℕ, ℤ, pos, ◌+ℤ◌, ◌^◌, ◌==◌, ◌||◌, Bool, true, if◌then◌else◌, List, []}
 use Rattle.std.specs.Prelude.{◌∷◌, ◌++◌, length, nat_le, Option, Some, None}
 use Rattle.std.specs.List.{list_any}
+use Rattle.gm_base.specs.Ascii.{null_byte}
 use Rattle.gm_types.specs.declared.kind.Kind.{Kind}
 use Rattle.gm_types.specs.declared.kind.Kind.TheVariants as kind
 use Rattle.gm_types.specs.Specification.{Specification, kind_at}
@@ -35,7 +36,7 @@ form_of (value.Date at) = Some (date_bytes at)
 form_of (value.Geo g) = None
 
 abbrev pub is_zero : ℕ → Bool
-is_zero byte = byte == 0
+is_zero byte = byte == null_byte
 
 -- a byte is 0
 abbrev pub has_zero : List ℕ → Bool

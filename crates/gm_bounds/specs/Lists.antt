@@ -1,5 +1,5 @@
 -- Lists of places, and what AND and OR make of bounds.
-use Rattle.std.specs.Prelude.{Bool, nat_le, if◌then◌else◌, List, [], ◌∷◌, ◌++◌, length, fold}
+use Rattle.std.specs.Prelude.{ℕ, Bool, nat_le, if◌then◌else◌, List, [], ◌∷◌, ◌++◌, length, fold}
 use Rattle.std.specs.Prelude.{Option, Some, None, option_to_list}
 use Rattle.gm_bounds.specs.declared.bound.Bound.{Bound}
 use Rattle.gm_bounds.specs.declared.bound.Bound.TheVariants.{World, Listed}
@@ -17,9 +17,13 @@ widened joined (Some held) x = joined held x
 abbrev pub hull_of : {X : Type 0} → (X → X → X) → List X → Option X
 hull_of joined xs = fold (λ held x. Some (widened joined held x)) None xs
 
--- at most eight places, and of more their hull
+-- the most places of a list
+abbrev pub most_places : ℕ
+most_places = 8
+
+-- at most so many places, and of more their hull
 abbrev pub capped : {X : Type 0} → (X → X → X) → List X → List X
-capped joined xs = if nat_le (length xs) 8 then xs else option_to_list (hull_of joined xs)
+capped joined xs = if nat_le (length xs) most_places then xs else option_to_list (hull_of joined xs)
 
 -- what lies in one place and in each of others
 abbrev pub pairs_of : {X : Type 0} → (X → X → X) → (X → Bool) → X → List X → List X

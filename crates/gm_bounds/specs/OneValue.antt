@@ -7,6 +7,7 @@ use Rattle.std.specs.List.{list_all}
 use Rattle.std.specs.Option.{option_eq}
 use Rattle.std.specs.Str.{bytes_eq, is_utf8}
 use Rattle.byteorder.specs.Endian.{big_number}
+use Rattle.gm_base.specs.Ascii.{null_byte}
 use Rattle.gm_calendar.specs.Instant.{IsInstant, is_instant}
 use Rattle.gm_lexi.specs.Ends.{after_of}
 use Rattle.gm_lexi.specs.Lexicode.{int_bytes, long_bytes, date_bytes, bool_bytes, text_bytes}
@@ -51,7 +52,7 @@ with_byte byte (Some text) = Some (byte ∷ text)
 abbrev pub before_end : List ℕ → Option (List ℕ)
 before_end [] = None
 before_end (byte ∷ bytes) =
-    if byte == 0 then nothing_before bytes else with_byte byte (before_end bytes)
+    if byte == null_byte then nothing_before bytes else with_byte byte (before_end bytes)
 
 abbrev pub is_text_in_utf8 : Option (List ℕ) → Bool
 is_text_in_utf8 None = false

@@ -33,3 +33,7 @@ hour_ms = 3_600_000
 
 abbrev pub day_ms : ℕ
 day_ms = 86_400_000
+
+-- the most digits of a fraction of a second
+abbrev pub fraction_digits : ℕ
+fraction_digits = 9

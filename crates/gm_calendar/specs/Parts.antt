@@ -9,7 +9,7 @@ use Rattle.jiff_core.specs.Calendar.{days_from_civil}
 use Rattle.gm_base.specs.Ascii.{plus_sign, minus_sign, decimal_point, digit_zero, colon}
 use Rattle.gm_base.specs.Ascii.{letter_t, letter_z}
 use Rattle.gm_calendar.specs.Calendar.{days_of_month}
-use Rattle.gm_calendar.specs.Instant.{day_ms, second_ms, minute_ms, IsInstant}
+use Rattle.gm_calendar.specs.Instant.{day_ms, second_ms, minute_ms, fraction_digits, IsInstant}
 use Rattle.gm_base.specs.Ascii.{next_digit}
 
 -- so many digits, which write that number
@@ -56,7 +56,7 @@ pub record MarksFraction (text : List ℕ) (ms : ℤ) : Type 0 where
   pub digits : List ℕ
   pub are_digits : list_all is_ascii_digit digits ≡ true
   pub some : 1 ≤ length digits
-  pub few : length digits ≤ 9
+  pub few : length digits ≤ fraction_digits
   pub value : pos (fraction_ms digits) ≡ ms
   pub written : text ≡ decimal_point ∷ digits
 

@@ -12,7 +12,7 @@ use Rattle.gm_base.specs.Ascii.{plus_sign, minus_sign, decimal_point, digit_zero
 use Rattle.gm_base.specs.Ascii.{letter_t, letter_z}
 use Rattle.gm_calendar.specs.Calendar.{days_of_month, days_of_year, days_of_nth_month, span_at}
 use Rattle.gm_calendar.specs.Instant.{day_ms, hour_ms, minute_ms, second_ms, ms_before_1970}
-use Rattle.gm_calendar.specs.Instant.{instant_at}
+use Rattle.gm_calendar.specs.Instant.{instant_at, fraction_digits}
 
 abbrev pub number_of : List ℕ → Option ℕ
 number_of bytes = if list_all is_ascii_digit bytes then Some (fold next_digit 0 bytes) else None
@@ -83,7 +83,7 @@ digit_at digits place = slice_index_or digits place digit_zero - digit_zero
 -- the one to nine digits of a fraction of a second: those past the third count for nothing
 abbrev pub fraction_of : List ℕ → Option ℤ
 fraction_of digits =
-    if nat_le 1 (length digits) && nat_le (length digits) 9
+    if nat_le 1 (length digits) && nat_le (length digits) fraction_digits
     then Some (pos (digit_at digits 0 * 100 + digit_at digits 1 * 10 + digit_at digits 2)) else None
 
 abbrev pub negative_of : Option ℤ → Option ℤ

@@ -3,6 +3,7 @@ ghost use Rattle.std.specs.Prelude.{◌≡◌, ◌+◌, ◌*◌, ◌<◌, [], �
 ghost use Rattle.std.specs.Prelude.{take, ℤ, true, Some, IfOk, OnOk};
 ghost use Rattle.std.specs.List.{list_all};
 ghost use Rattle.std.specs.String.{string_bytes};
+ghost use Rattle.gm_base.specs.Ascii.{digit_zero};
 ghost use Rattle.gm_calendar.specs.Calendar.{days_of_year, span_at};
 ghost use Rattle.gm_calendar.specs.Instant.{day_ms, IsInstant};
 ghost use Rattle.gm_calendar.specs.Parts.{SpellsInstant};
@@ -115,7 +116,7 @@ fn append_two(text: &mut String, number: u64) -> Result<(), NoMemory>
 fn append_digit(text: &mut String, digit: u64) -> Result<(), NoMemory>
     requires { digit < 10 }
     ensures { IfOk result (λ _. string_bytes text.new
-        ≡ string_bytes text.old ++ (48 + digit) ∷ []) }
+        ≡ string_bytes text.old ++ (digit_zero + digit) ∷ []) }
 {
     text.push(char::from(b'0' + digit as u8))?;
     Ok(())

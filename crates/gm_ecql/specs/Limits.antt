@@ -29,9 +29,22 @@ abbrev pub deepest : ℕ → List Seen → ℕ
 deepest depth [] = depth
 deepest depth (t ∷ ts) = max depth (deepest (depth_behind depth t) ts)
 
--- at most 50,000 tokens, 1,000 of these words and 100 open brackets
+abbrev pub most_tokens : ℕ
+most_tokens = 50000
+
+-- the most of these words
+abbrev pub most_joins : ℕ
+most_joins = 1000
+
+-- the most open brackets
+abbrev pub most_depth : ℕ
+most_depth = 100
+
+-- at most so many tokens, of these words and open brackets
 abbrev pub are_within : List Seen → Bool
-are_within ts = (nat_le (length ts) 50000 && nat_le (joins ts) 1000) && nat_le (deepest 0 ts) 100
+are_within ts =
+    (nat_le (length ts) most_tokens && nat_le (joins ts) most_joins)
+    && nat_le (deepest 0 ts) most_depth
 
 abbrev pub is_number : Seen → Bool
 is_number (a_number bytes) = true

@@ -3,6 +3,7 @@ use Rattle.std.specs.Prelude.{ℕ, ◌^◌, Bool, true, false, not, ◌&&◌, �
 use Rattle.std.specs.Prelude.{negsuc, List, length, is_none}
 use Rattle.std.specs.List.{list_all}
 use Rattle.std.specs.Str.{is_utf8}
+use Rattle.gm_base.specs.Ascii.{null_byte}
 use Rattle.gm_calendar.specs.Instant.{is_instant}
 use Rattle.gm_geom.specs.Validity.{fault_of}
 use Rattle.gm_types.specs.declared.kind.Kind.{Kind}
@@ -13,7 +14,7 @@ use Rattle.gm_feature.specs.Shape.{has_shape}
 
 -- no 0x00
 abbrev pub is_no_zero : ℕ → Bool
-is_no_zero byte = not (byte == 0)
+is_no_zero byte = not (byte == null_byte)
 
 -- the most bytes of a text
 abbrev pub text_limit : ℕ

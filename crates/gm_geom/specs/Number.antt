@@ -18,6 +18,10 @@ use Rattle.gm_geom.specs.declared.number.NumberFault.TheVariants.{Form, Big}
 abbrev pub number_limit : ℕ
 number_limit = 38
 
+-- the most digits of an exponent
+abbrev pub exponent_digits : ℕ
+exponent_digits = 3
+
 -- a degree in units, 10^unit_places of them
 abbrev pub degree : ℕ
 degree = 10000000
@@ -49,7 +53,7 @@ pub record MarksExponent (text : List ℕ) (e : Exponent) : Type 0 where
   pub signed : SpellsSign sign e.negative
   pub are_digits : AreDigits digits
   pub some : 1 ≤ length digits
-  pub few : length digits ≤ 3
+  pub few : length digits ≤ exponent_digits
   pub value : e.value ≡ digits_value 10 digits
   pub written : text ≡ mark ∷ (sign ++ digits)
 
@@ -99,7 +103,8 @@ behind_fraction bytes = if has_point bytes then behind_digits (drop 1 bytes) els
 -- one to three digits
 abbrev pub is_exponent : List ℕ → Bool
 is_exponent digits =
-    (nat_le 1 (length digits) && nat_le (length digits) 3) && list_all is_ascii_digit digits
+    (nat_le 1 (length digits) && nat_le (length digits) exponent_digits)
+    && list_all is_ascii_digit digits
 
 -- an optional sign and one to three digits
 abbrev pub marked_exponent : List ℕ → Option Exponent

@@ -2,6 +2,7 @@
 ghost use Rattle.std.specs.Prelude.{◌≡◌, ◌<◌, ◌^◌, ◌++◌, ◌+◌, ◌/◌, [], ◌∷◌, IfOk, OnOk};
 ghost use Rattle.std.specs.String.{string_bytes};
 ghost use Rattle.std.specs.Fmt.{decimal};
+ghost use Rattle.gm_base.specs.Ascii.{digit_zero};
 ghost use Rattle.gm_geom.specs.Number.{BeginsWith, fixed_text, fixed_of, fraction_text};
 ghost use Rattle.gm_geom.specs.Number.{minus_text, places_of};
 
@@ -86,7 +87,8 @@ fn append_places(out: &mut String, mut rest: u32) -> Result<(), NoMemory>
 
 fn append_digit(out: &mut String, digit: u32) -> Result<(), NoMemory>
     requires { digit < 10 }
-    ensures text { OnOk result (string_bytes out.new ≡ string_bytes out.old ++ (48 + digit) ∷ []) }
+    ensures text { OnOk result (string_bytes out.new
+        ≡ string_bytes out.old ++ (digit_zero + digit) ∷ []) }
     ensures kept { BeginsWith (string_bytes out.new) (string_bytes out.old) }
 {
     out.push(char::from(b'0' + digit as u8))?;

@@ -1,7 +1,7 @@
 // The cells of places and moments, and the codes of points and boxes.
 ghost use Rattle.std.specs.Prelude.{◌≡◌, ◌≤◌, ◌<◌, ◌^◌, ◌+ℤ◌, ◌≤ℤ◌, pos, true, IsTrue};
 ghost use Rattle.gm_calendar.specs.Period.{longest_of};
-ghost use Rattle.gm_geom.specs.Validity.{is_within, is_in_world};
+ghost use Rattle.gm_geom.specs.Validity.{is_within, is_in_world, longitude_limit, latitude_limit};
 ghost use Rattle.gm_types.specs.Specification.{is_z2_width, is_z3_width, is_precision};
 ghost use Rattle.gm_keys.specs.Cell as spec;
 ghost use Rattle.gm_keys.specs.Cell.{IsBoxInWorld};
@@ -19,7 +19,7 @@ fn along(z: i32, half: u32) -> u64
 }
 
 fn longitude_cell(x: i32, bits: u32) -> u32
-    requires in_world { is_within 1800000000 x ≡ true }
+    requires in_world { is_within longitude_limit x ≡ true }
     requires some { 1 ≤ bits }
     requires few { bits ≤ 31 }
     ensures cell { result ≡ spec.longitude_cell bits x }
@@ -29,7 +29,7 @@ fn longitude_cell(x: i32, bits: u32) -> u32
 }
 
 fn latitude_cell(y: i32, bits: u32) -> u32
-    requires in_world { is_within 900000000 y ≡ true }
+    requires in_world { is_within latitude_limit y ≡ true }
     requires some { 1 ≤ bits }
     requires few { bits ≤ 31 }
     ensures cell { result ≡ spec.latitude_cell bits y }

@@ -3,10 +3,11 @@ use Rattle.std.specs.Prelude.{ℕ, ◌+◌, Bool, true, not, ◌&&◌, ◌==◌,
 use Rattle.std.specs.Prelude.{None, if◌then◌else◌}
 use Rattle.std.specs.Ordering.{nat_cmp, is_le}
 use Rattle.std.specs.Cmp.Lexicographic.{slice_cmp}
+use Rattle.gm_base.specs.Ascii.{last_byte}
 
 -- one more than the last byte that can be raised, the bytes behind it being left out
 abbrev pub raised : ℕ → Option (List ℕ) → Option (List ℕ)
-raised byte None = if byte == 255 then None else Some ((byte + 1) ∷ [])
+raised byte None = if byte == last_byte then None else Some ((byte + 1) ∷ [])
 raised byte (Some rest) = Some (byte ∷ rest)
 
 -- the bytes without those of 0xFF at their end, the last byte left being one more; none where each

@@ -2,6 +2,7 @@
 use Rattle.std.specs.Prelude.{ℕ, ◌<◌, ◌^◌, Bool, ℤ, List, [], ◌∷◌, ◌++◌, All, IsUtf8, bit_xor}
 use Rattle.std.specs.Prelude.{if◌then◌else◌}
 use Rattle.std.specs.Int.{cast_unsigned, w32, w64}
+use Rattle.gm_base.specs.Ascii.{null_byte}
 use Rattle.byteorder.specs.Endian.{big_bytes}
 
 -- a number of 32 bits: its two's complement with the first bit flipped, in four bytes
@@ -22,7 +23,7 @@ bool_bytes truth = (if truth then 1 else 0) ∷ []
 
 -- a text: its bytes, and 0
 abbrev pub text_bytes : List ℕ → List ℕ
-text_bytes text = text ++ 0 ∷ []
+text_bytes text = text ++ null_byte ∷ []
 
 -- no byte is 0: only such a text has a lexicoded form
 abbrev pub HasNoZero : List ℕ → Type 0

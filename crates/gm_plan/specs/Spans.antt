@@ -1,6 +1,7 @@
 -- Ranges as spans of keys: the low end of each is in it, the high end is not.
 use Rattle.std.specs.Prelude.{ℕ, List, [], ◌∷◌, ◌++◌, map, Option, Some, None}
 use Rattle.std.specs.List.{flat_map, range_with_len}
+use Rattle.gm_base.specs.Ascii.{null_byte}
 use Rattle.gm_lexi.specs.Ends.{after_of}
 use Rattle.gm_types.specs.declared.index.IndexKind.{IndexKind}
 use Rattle.gm_types.specs.Specification.{Specification}
@@ -37,7 +38,7 @@ span_behind prefix shard (InBin number low high level) =
 span_behind prefix shard (Span first last) =
     from_to (bin_front prefix shard first) (bin_front prefix shard last)
 span_behind prefix shard (Values low high) = (prefix ++ low, value_end prefix high)
-span_behind prefix shard (OneId id) = (prefix ++ id, (prefix ++ id) ++ 0 ∷ [])
+span_behind prefix shard (OneId id) = (prefix ++ id, (prefix ++ id) ++ null_byte ∷ [])
 span_behind prefix shard All = from_to prefix prefix
 
 abbrev pub spans_in : List ℕ → List Range → ℕ → List (List ℕ × List ℕ)

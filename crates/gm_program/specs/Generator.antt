@@ -41,13 +41,20 @@ place_text x y =
     ++ (fixed_text (centred longitude_limit x)
     ++ (codes " " ++ (fixed_text (centred latitude_limit y) ++ line (codes ")"))))
 
+-- how many longitudes and latitudes there are
+abbrev pub longitudes : ℕ
+longitudes = 3600000001
+
+abbrev pub latitudes : ℕ
+latitudes = 1800000001
+
 -- the feature with this number: a name, a number, a second of 2020 and a place, drawn in this order
 unfoldable pub put_line : ℕ → ℕ → List ℕ
 put_line number state =
     codes "put gen g" ++ (decimal number ++ (codes ",n" ++ (decimal (drawn 100 (behind 1 state))
     ++ (codes "," ++ (decimal (drawn 1000 (behind 2 state))
     ++ (codes "," ++ (instant_text (second_of_2020 (drawn 31536000 (behind 3 state)))
-    ++ place_text (drawn 3600000001 (behind 4 state)) (drawn 1800000001 (behind 5 state)))))))))
+    ++ place_text (drawn longitudes (behind 4 state)) (drawn latitudes (behind 5 state)))))))))
 
 -- so many features, the first with this number
 abbrev pub put_lines : ℕ → ℕ → ℕ → List ℕ

@@ -23,6 +23,10 @@ last_line (byte ∷ bytes) = (byte ∷ bytes) ∷ []
 abbrev pub lines_of : List ℕ → List (List ℕ)
 lines_of script = complete_from [] script ++ last_line (partial_from [] script)
 
--- as much of a line as shows whether it is too long: over 1,048,576 bytes
+-- the length from which a line is too long: over 1,048,576 bytes
+abbrev pub cut_length : ℕ
+cut_length = 1048577
+
+-- as much of a line as shows whether it is too long
 unfoldable pub cut : List ℕ → List ℕ
-cut line = take 1048577 line
+cut line = take cut_length line

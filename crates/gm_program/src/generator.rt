@@ -3,6 +3,7 @@ ghost use Rattle.std.specs.Prelude.{◌≡◌, ◌++◌, ◌+◌, ◌<◌, ◌�
 ghost use Rattle.std.specs.Fmt.{decimal};
 ghost use Rattle.std.specs.String.{string_bytes};
 ghost use Rattle.gm_calendar.specs.Spelling.{instant_text};
+ghost use Rattle.gm_keys.specs.Cell.{world_width, world_height};
 ghost use Rattle.gm_program.specs.Generator as spec;
 
 use gm_base::{Bytes, NoMemory};
@@ -163,8 +164,8 @@ fn instant_at(second: u64) -> Instant
 
 // The point and the end of a put, by coordinates that are counted from the least.
 fn append_place(script: &mut String, x: u64, y: u64) -> Result<(), NoMemory>
-    requires x { x ≤ 3600000000 }
-    requires y { y ≤ 1800000000 }
+    requires x { x ≤ world_width }
+    requires y { y ≤ world_height }
     ensures { IfOk result (λ _. string_bytes script.new
         ≡ string_bytes script.old ++ spec.place_text x y) }
 {

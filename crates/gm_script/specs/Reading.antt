@@ -59,10 +59,14 @@ with_rest types name rest on =
     else on_type on (type_named types name)
 
 -- ---- create
+-- so many attributes are more than a type may have
+abbrev pub attributes_too_many : ℕ
+attributes_too_many = 65
+
 -- a further type, where there is room for one among 100
 abbrev pub create_type : List Specification → Specification → Given
 create_type types t =
-    if nat_lt (length types) most_types && nat_lt (length t.attributes) 65
+    if nat_lt (length types) most_types && nat_lt (length t.attributes) attributes_too_many
     then Ok (order.create t)
     else refused E19
 

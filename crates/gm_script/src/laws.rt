@@ -4,6 +4,7 @@ ghost use Rattle.std.specs.Prelude.{◌≡◌, ◌≤◌, ◌<◌, ◌⊎◌, �
 ghost use Rattle.std.specs.Prelude.{List, Option, Some, None, Ok, Err, codes, length};
 ghost use Rattle.std.specs.List.{list_any};
 ghost use Rattle.std.specs.Str.{is_utf8};
+ghost use Rattle.gm_base.specs.Ascii.{number_sign};
 ghost use Rattle.gm_base.specs.Identifier.{is_identifier};
 ghost use Rattle.gm_base.specs.declared.code.Code.TheVariants.{E01, E02, E03, E04, E05, E06};
 ghost use Rattle.gm_base.specs.declared.code.Code.TheVariants.{E07, E11, E12, E17, E19};
@@ -24,25 +25,27 @@ ghost use Rattle.gm_script.specs.Fault.{filter_fault, row_fault};
 ghost use Rattle.gm_script.specs.Laid.{IsLineOf, IsOnLine, IsFormed, IsUnformed, IsTypeNamed};
 ghost use Rattle.gm_script.specs.Laid.{IsFormedAsk, IsUnformedAsk, Question, command_words};
 ghost use Rattle.gm_script.specs.Laid.{question};
-ghost use Rattle.gm_script.specs.Line.{says_nothing};
+ghost use Rattle.gm_script.specs.Line.{line_limit, says_nothing};
 ghost use Rattle.gm_script.specs.Order.{asked};
 ghost use Rattle.gm_script.specs.Order as order;
-ghost use Rattle.gm_script.specs.Reading.{reading, refused};
+ghost use Rattle.gm_script.specs.Reading.{attributes_too_many, reading, refused};
+ghost use Rattle.gm_script.specs.Suits.{most_types};
 ghost use Rattle.gm_script.specs.Words.{AreBlanks, is_no_blank, is_word};
 
 /// A line that is too long is refused before all else. Blanks and comments say nothing, whatever
 /// bytes a comment has. What is no comment is UTF-8, and its first word is that of a command.
 pub fn lines_are_read()
-    ensures long { (types : List Specification) (line : List ℕ) → 1048576 < length line
+    ensures long { (types : List Specification) (line : List ℕ) → line_limit < length line
         → reading types line ≡ refused E01 }
     ensures blank { (types : List Specification) (text line : List ℕ) → IsOnLine text line
         → AreBlanks text → reading types line ≡ Ok order.nothing }
     ensures comment { (types : List Specification) (blanks more text line : List ℕ)
-        → IsOnLine text line → AreBlanks blanks → text ≡ blanks ++ (35 ∷ more)
+        → IsOnLine text line → AreBlanks blanks → text ≡ blanks ++ (number_sign ∷ more)
         → reading types line ≡ Ok order.nothing }
     ensures bytes { (types : List Specification) (blanks more text line : List ℕ) (byte : ℕ)
-        → IsOnLine text line → AreBlanks blanks → is_no_blank byte ≡ true → (byte == 35) ≡ false
-        → text ≡ blanks ++ (byte ∷ more) → is_utf8 text ≡ false → reading types line ≡ refused E02 }
+        → IsOnLine text line → AreBlanks blanks → is_no_blank byte ≡ true
+        → (byte == number_sign) ≡ false → text ≡ blanks ++ (byte ∷ more) → is_utf8 text ≡ false
+        → reading types line ≡ refused E02 }
     ensures unknown { (types : List Specification) (word name rest line : List ℕ)
         → IsLineOf word name rest line → is_word word ≡ true → says_nothing word ≡ false
         → list_any (same_text word) command_words ≡ false → reading types line ≡ refused E03 }
@@ -61,11 +64,13 @@ pub fn creates_are_read()
     ensures limit { (types : List Specification) (name text line : List ℕ) (t : Specification)
         → IsFormed (codes "create") name text line → number_of_name types name ≡ None
         → specification_of name (length types) text ≡ Some t
-        → (100 ≤ length types) ⊎ (65 ≤ length t.attributes) → reading types line ≡ refused E19 }
+        → (most_types ≤ length types) ⊎ (attributes_too_many ≤ length t.attributes)
+        → reading types line ≡ refused E19 }
     ensures read { (types : List Specification) (name text line : List ℕ) (t : Specification)
         → IsFormed (codes "create") name text line → number_of_name types name ≡ None
         → specification_of name (length types) text ≡ Some t
-        → length types < 100 → length t.attributes < 65 → reading types line ≡ Ok (order.create t) }
+        → length types < most_types → length t.attributes < attributes_too_many
+        → reading types line ≡ Ok (order.create t) }
 {}
 
 /// `put NAME ROW`

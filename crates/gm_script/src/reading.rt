@@ -4,7 +4,7 @@ ghost use Rattle.gm_script.specs.Order.{order_of};
 ghost use Rattle.gm_script.specs.Reading as spec;
 ghost use Rattle.gm_script.specs.Reading.{Reads, reading, reading_of, command_in};
 ghost use Rattle.gm_script.specs.Reading.{command_of, question_of};
-ghost use Rattle.gm_script.specs.Suits.{Suits};
+ghost use Rattle.gm_script.specs.Suits.{Suits, most_types};
 
 mod asking;
 mod create;
@@ -36,7 +36,7 @@ pub const LINE_LIMIT: usize = 1_048_576;
 /// 0x0A; of one that is too long the first 1,048,577 are enough.
 #[tactic(auto, unfolding(crate::specs::Reading::reading))]
 pub fn read_line(alloc: Global, types: &TypeList, line: &[u8]) -> Result<Command, LineFault>
-    requires { length types.now ≤ 100 }
+    requires { length types.now ≤ most_types }
     ensures reads { Reads (reading types.now line.now) result }
     ensures suits { IfOk result (λ c. Suits types.now (order_of c)) }
 {
@@ -48,7 +48,7 @@ pub fn read_line(alloc: Global, types: &TypeList, line: &[u8]) -> Result<Command
 
 // A line that is not too long, without its end.
 fn read_text(alloc: Global, types: &TypeList, text: &[u8]) -> Result<Command, LineFault>
-    requires { length types.now ≤ 100 }
+    requires { length types.now ≤ most_types }
     ensures reads { Reads (reading_of types.now text.now) result }
     ensures suits { IfOk result (λ c. Suits types.now (order_of c)) }
 {
@@ -63,7 +63,7 @@ fn read_text(alloc: Global, types: &TypeList, text: &[u8]) -> Result<Command, Li
 
 // A text by its first word, the word behind it, and what is left.
 fn read_words(alloc: Global, types: &TypeList, text: &[u8]) -> Result<Command, LineFault>
-    requires { length types.now ≤ 100 }
+    requires { length types.now ≤ most_types }
     ensures reads { Reads (command_in types.now text.now) result }
     ensures suits { IfOk result (λ c. Suits types.now (order_of c)) }
 {
@@ -79,7 +79,7 @@ fn read_command(
     name: &[u8],
     rest: &[u8],
 ) -> Result<Command, LineFault>
-    requires { length types.now ≤ 100 }
+    requires { length types.now ≤ most_types }
     ensures reads { Reads (command_of types.now verb.now name.now rest.now) result }
     ensures suits { IfOk result (λ c. Suits types.now (order_of c)) }
 {
@@ -111,7 +111,7 @@ fn read_question(
     name: &[u8],
     rest: &[u8],
 ) -> Result<Command, LineFault>
-    requires { length types.now ≤ 100 }
+    requires { length types.now ≤ most_types }
     ensures reads { Reads (question_of types.now verb.now name.now rest.now) result }
     ensures suits { IfOk result (λ c. Suits types.now (order_of c)) }
 {

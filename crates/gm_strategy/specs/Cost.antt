@@ -24,9 +24,13 @@ abbrev pub ranges_cost : Option Attribute → Bound ByteRange → ℕ
 ranges_cost attribute World = 6
 ranges_cost attribute (Listed ranges) = value_cost attribute ranges
 
+-- of an index that is read as a whole
+abbrev pub dearest : ℕ
+dearest = 7
+
 -- of identifiers: little where they are known, and else the whole index
 abbrev pub ids_cost : Tree → ℕ
-ids_cost t = if is_listed (ids_of t) then 1 else 7
+ids_cost t = if is_listed (ids_of t) then 1 else dearest
 
 -- of an index that applies
 abbrev pub price_of : Specification → IndexKind → Tree → ℕ

@@ -1,10 +1,10 @@
 -- What every feature type is: its specification breaks no rule, and has no more attributes than a
 -- type may have.
-use Rattle.std.specs.Prelude.{◌≡◌, ℕ, ◌<◌, ◌≤◌, ◌^◌, Bool, true, false, not, ◌&&◌, ◌||◌, List}
+use Rattle.std.specs.Prelude.{◌≡◌, ℕ, ◌<◌, ◌≤◌, Bool, true, false, not, ◌&&◌, ◌||◌, List}
 use Rattle.std.specs.Prelude.{length, codes, slice_get, Option, Some, None, is_some, option_map}
 use Rattle.std.specs.Prelude.{option_and_then}
 use Rattle.std.specs.List.{list_all, list_any}
-use Rattle.gm_types.specs.Specification.{most_attributes}
+use Rattle.gm_types.specs.Specification.{most_attributes, number_limit}
 use Rattle.gm_types.specs.declared.attribute.Attribute.{Attribute}
 use Rattle.gm_types.specs.declared.index.IndexKind.TheVariants.{Z2, Z3, Xz2, Xz3, Attr}
 use Rattle.gm_types.specs.declared.kind.GeoKind.TheVariants.{Point}
@@ -117,7 +117,7 @@ pub record IsReadType (name : List ℕ) (number : ℕ) (t : Specification) : Typ
 
 pub record IsType (t : Specification) : Type 0 where
   pub named : is_name t.name ≡ true
-  pub numbered : t.number < 2 ^ 16
+  pub numbered : t.number < number_limit
   pub few : length t.attributes ≤ most_attributes
   pub valid : IsValid t
 

@@ -10,6 +10,10 @@ IsSetting reading value standard None = is_read reading value ≡ false
 IsSetting reading value standard (Some x) =
     (is_read reading value ≡ true) × (x ≡ setting_or reading value standard)
 
+-- no number that counts is more
+abbrev pub number_cap : ℕ
+number_cap = 1000
+
 -- a number, or 1000 where it is more
 abbrev pub capped : Option ℕ → Option ℕ
-capped number = option_map (λ n. min n 1000) number
+capped number = option_map (λ n. min n number_cap) number

@@ -1,7 +1,7 @@
 -- What a feature type is: its specification, and what follows from it.
 use Rattle.std.specs.Prelude.{ℕ, ◌*◌, ◌+◌, ◌-◌, Bool, false, not, ◌&&◌, ◌||◌, ◌==◌, nat_le}
 use Rattle.std.specs.Prelude.{if◌then◌else◌, List, [], ◌∷◌, length, map, fold, codes, position}
-use Rattle.std.specs.Prelude.{slice_get, Option, Some, None, option_and_then, unwrap_or}
+use Rattle.std.specs.Prelude.{◌^◌, slice_get, Option, Some, None, option_and_then, unwrap_or}
 use Rattle.std.specs.List.{list_all}
 use Rattle.std.specs.Char.{is_ascii_digit}
 use Rattle.gm_base.specs.Ascii.{next_digit}
@@ -88,6 +88,10 @@ period_from text =
     else if is_period_name Year text then Some Year
     else None
 
+-- the numbers of types are below
+abbrev pub number_limit : ℕ
+number_limit = 2 ^ 16
+
 -- the most attributes of a type
 abbrev pub most_attributes : ℕ
 most_attributes = 64
@@ -107,6 +111,19 @@ is_z2_width n = n == 8 || n == 16 || n == 24 || n == 31
 abbrev pub is_z3_width : ℕ → Bool
 is_z3_width n = n == 8 || n == 12 || n == 16 || n == 21
 
+-- the defaults
+abbrev pub standard_shards : ℕ
+standard_shards = 4
+
+abbrev pub standard_precision : ℕ
+standard_precision = 12
+
+abbrev pub standard_z2_bits : ℕ
+standard_z2_bits = 31
+
+abbrev pub standard_z3_bits : ℕ
+standard_z3_bits = 21
+
 -- a setting: the value of its key where that is listed, else the default
 abbrev pub setting_or : {A : Type 0} → (List ℕ → Option A) → Option (List ℕ) → A → A
 setting_or reading value standard = unwrap_or (option_and_then reading value) standard
@@ -117,16 +134,21 @@ period_of t = setting_or period_from (setting_of t (codes "geomesa.z3.interval")
 
 -- how many shards the indexes over space have
 unfoldable pub shards_of : Specification → ℕ
-shards_of t = setting_or (number_that is_shard_count) (setting_of t (codes "geomesa.z.splits")) 4
+shards_of t =
+    setting_or (number_that is_shard_count) (setting_of t (codes "geomesa.z.splits"))
+    standard_shards
 
 -- the levels of the trees of extents
 unfoldable pub precision_of : Specification → ℕ
 precision_of t =
-    setting_or (number_that is_precision) (setting_of t (codes "geomesa.xz.precision")) 12
+    setting_or (number_that is_precision) (setting_of t (codes "geomesa.xz.precision"))
+    standard_precision
 
 -- the bits of a coordinate in z2 and in z3
 unfoldable pub z2_bits_of : Specification → ℕ
-z2_bits_of t = setting_or (number_that is_z2_width) (setting_of t (codes "gm.z2.bits")) 31
+z2_bits_of t =
+    setting_or (number_that is_z2_width) (setting_of t (codes "gm.z2.bits")) standard_z2_bits
 
 unfoldable pub z3_bits_of : Specification → ℕ
-z3_bits_of t = setting_or (number_that is_z3_width) (setting_of t (codes "gm.z3.bits")) 21
+z3_bits_of t =
+    setting_or (number_that is_z3_width) (setting_of t (codes "gm.z3.bits")) standard_z3_bits

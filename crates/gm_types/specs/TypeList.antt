@@ -1,7 +1,7 @@
 -- The types of a store.
-use Rattle.std.specs.Prelude.{◌≡◌, ℕ, ◌≤◌, ◌^◌, Bool, true, ◌==◌, ◌&&◌, ◌+◌, List, [], ◌∷◌, length}
+use Rattle.std.specs.Prelude.{◌≡◌, ℕ, ◌≤◌, Bool, true, ◌==◌, ◌&&◌, ◌+◌, List, [], ◌∷◌, length}
 use Rattle.std.specs.Prelude.{map, position, Option}
-use Rattle.gm_types.specs.Specification.{Specification}
+use Rattle.gm_types.specs.Specification.{Specification, number_limit}
 use Rattle.gm_types.specs.Words.{same_text, are_distinct}
 
 abbrev pub type_names : List Specification → List (List ℕ)
@@ -16,7 +16,7 @@ are_numbered number (t ∷ types) = t.number == number && are_numbered (number +
 pub record AreTypes (types : List Specification) : Type 0 where
   pub numbered : are_numbered 0 types ≡ true
   pub names : are_distinct (type_names types) ≡ true
-  pub few : length types ≤ 2 ^ 16
+  pub few : length types ≤ number_limit
 
 -- the number of the type with that name
 abbrev pub number_of_name : List Specification → List ℕ → Option ℕ

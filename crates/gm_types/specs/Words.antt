@@ -20,8 +20,12 @@ begins_name byte = is_ascii_alphabetic byte || byte == underscore
 abbrev pub continues_name : ℕ → Bool
 continues_name byte = begins_name byte || is_ascii_digit byte
 
+-- the most bytes of a name behind its first
+abbrev pub name_rest_limit : ℕ
+name_rest_limit = 63
+
 abbrev pub continue_name : List ℕ → Bool
-continue_name bytes = nat_le (length bytes) 63 && list_all continues_name bytes
+continue_name bytes = nat_le (length bytes) name_rest_limit && list_all continues_name bytes
 
 abbrev pub has_name_form : List ℕ → Bool
 has_name_form [] = false

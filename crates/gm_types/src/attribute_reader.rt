@@ -1,6 +1,7 @@
 // Attributes, read from a specification.
 ghost use Rattle.std.specs.Prelude.{◌≡◌, find, Some, None, IfOk};
 ghost use Rattle.std.specs.Option.{option_copied};
+ghost use Rattle.gm_base.specs.Ascii.{colon};
 ghost use Rattle.gm_types.specs.Attribute.{asks_index, attribute_from, has_option, is_cardinality};
 ghost use Rattle.gm_types.specs.Attribute.{is_index_value, is_indexed, may_have};
 ghost use Rattle.gm_types.specs.Kind.{is_geometry};
@@ -93,7 +94,7 @@ fn add_option(alloc: Global, kind: Kind, options: &mut OptionList, text: &[u8]) 
 
 // Options with colons between them.
 fn read_options(alloc: Global, kind: Kind, text: &[u8]) -> Result<OptionList, Halt>
-    ensures { Reads (spec.read_all (spec.option_of kind) (parts_of 58 text.now)) result }
+    ensures { Reads (spec.read_all (spec.option_of kind) (parts_of colon text.now)) result }
 {
     let mut options = Items::new(alloc);
     let mut rest = text;

@@ -7,6 +7,7 @@ ghost use Rattle.gm_types.specs.Index.{fits_index, has_index, index_meant, index
 ghost use Rattle.gm_types.specs.Index.{index_of_name, is_indexed_one};
 ghost use Rattle.gm_types.specs.Outline.{outlined};
 ghost use Rattle.gm_types.specs.Specification.{place_of_name, default_geometry_of, default_date_of};
+ghost use Rattle.gm_types.specs.Specification.{most_shards};
 ghost use Rattle.gm_types.specs.Specification.{period_of, shards_of, precision_of, z2_bits_of};
 ghost use Rattle.gm_types.specs.Specification.{z3_bits_of, is_precision, is_z2_width, is_z3_width};
 
@@ -135,7 +136,7 @@ impl FeatureType {
     pub fn shards(&self) -> u8
         ensures value { result ≡ shards_of self.now }
         ensures some { 1 ≤ result }
-        ensures few { result ≤ 127 }
+        ensures few { result ≤ most_shards }
     {
         self.facts.sizes.shards
     }

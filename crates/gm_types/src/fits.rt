@@ -2,6 +2,7 @@
 ghost use Rattle.std.specs.Prelude.{◌≡◌, true, map, slice_get, option_and_then};
 ghost use Rattle.std.specs.List.{list_all, list_any};
 ghost use Rattle.std.specs.Option.{option_copied, option_map_or};
+ghost use Rattle.gm_base.specs.Ascii.{comma};
 ghost use Rattle.gm_types.specs.FeatureType.{is_met};
 ghost use Rattle.gm_types.specs.Fits.{AreFits, word_fits};
 ghost use Rattle.gm_types.specs.Index as index;
@@ -89,7 +90,7 @@ fn word_fits(fits: Fits, word: &[u8]) -> bool
 
 // Whether each member of a list by commas is the word of an index that fits.
 fn words_fit(fits: Fits, list: &[u8]) -> bool
-    ensures { result ≡ list_all (word_fits fits) (parts_of 44 list.now) }
+    ensures { result ≡ list_all (word_fits fits) (parts_of comma list.now) }
 {
     let mut rest = list;
     'parts: loop {
@@ -107,7 +108,7 @@ fn words_fit(fits: Fits, list: &[u8]) -> bool
 
 /// The same of a list, where there is one.
 pub(crate) fn words_are_fit(fits: Fits, list: Option<&[u8]>) -> bool
-    ensures { result ≡ is_met (λ list. list_all (word_fits fits) (parts_of 44 list))
+    ensures { result ≡ is_met (λ list. list_all (word_fits fits) (parts_of comma list))
         (option_copied list.entry) }
 {
     match list {

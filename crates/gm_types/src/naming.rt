@@ -1,6 +1,7 @@
 // The names of indexes.
 ghost use Rattle.std.specs.Prelude.{◌≡◌, ◌≤◌, length};
 ghost use Rattle.gm_types.specs.Index as spec;
+ghost use Rattle.gm_types.specs.Specification.{most_attributes};
 
 use crate::dates::place_named;
 use crate::words::is_word;
@@ -8,7 +9,7 @@ use crate::{Attribute, IndexKind};
 
 // The index of an attribute whose name stands behind `attr:`.
 fn attribute_index(attributes: &[Attribute], name: &[u8]) -> Option<IndexKind>
-    requires { length attributes.now ≤ 64 }
+    requires { length attributes.now ≤ most_attributes }
     ensures { result ≡ spec.attribute_meant attributes.now name.now }
 {
     if name.len() < 5 {
@@ -26,7 +27,7 @@ fn attribute_index(attributes: &[Attribute], name: &[u8]) -> Option<IndexKind>
 
 /// The index that a name means, where the type has it.
 pub(crate) fn index_meant(attributes: &[Attribute], name: &[u8]) -> Option<IndexKind>
-    requires { length attributes.now ≤ 64 }
+    requires { length attributes.now ≤ most_attributes }
     ensures { result ≡ spec.index_meant attributes.now name.now }
 {
     if is_word(name, b"id") {

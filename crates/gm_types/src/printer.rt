@@ -1,6 +1,7 @@
 // Specifications, printed.
 ghost use Rattle.std.specs.Prelude.{◌≡◌, ◌++◌, ◌∷◌, map, IfOk, OnOk};
 ghost use Rattle.std.specs.String.{string_bytes};
+ghost use Rattle.gm_base.specs.Ascii.{colon};
 ghost use Rattle.gm_types.specs.Kind.{kind_name, shape_name};
 ghost use Rattle.gm_types.specs.Outline.{outlined};
 ghost use Rattle.gm_types.specs.Spelling as spec;
@@ -40,7 +41,7 @@ fn kind_name(kind: Kind) -> &'static str
 
 fn append_option(out: &mut String, option: &AttributeOption) -> Result<(), NoMemory>
     ensures { OnOk result (string_bytes out.new
-        ≡ string_bytes out.old ++ (58 ∷ spec.pair_text option.now)) }
+        ≡ string_bytes out.old ++ (colon ∷ spec.pair_text option.now)) }
 {
     out.push_str(":")?;
     out.push_str(option.key.as_str())?;

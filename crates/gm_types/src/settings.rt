@@ -6,7 +6,7 @@ ghost use Rattle.std.specs.List.{list_all};
 ghost use Rattle.std.specs.Option.{option_copied};
 ghost use Rattle.gm_calendar.specs.declared.period.Period.TheVariants.{Week};
 ghost use Rattle.gm_types.specs.Outline.{outlined};
-ghost use Rattle.gm_types.specs.Settings.{IsSetting, capped};
+ghost use Rattle.gm_types.specs.Settings.{IsSetting, capped, number_cap};
 ghost use Rattle.gm_types.specs.Specification as spec;
 ghost use Rattle.gm_types.specs.Words.{same_text};
 
@@ -49,7 +49,7 @@ fn are_digits(text: &[u8]) -> bool
 
 // The value of digits, or 1000 where it is more.
 fn digits_value(text: &[u8]) -> u32
-    ensures { result ≡ min (fold next_digit 0 text.now) 1000 }
+    ensures { result ≡ min (fold next_digit 0 text.now) number_cap }
 {
     let mut value = 0u32;
     for byte in text {

@@ -3,7 +3,7 @@ ghost use Rattle.std.specs.Prelude.{◌≡◌, ◌≤◌, length, None, IfOk};
 ghost use Rattle.gm_types.specs.TypeList.{number_of_name};
 ghost use Rattle.gm_script.specs.Order.{order_of};
 ghost use Rattle.gm_script.specs.Reading.{Reads, create_of, create_type};
-ghost use Rattle.gm_script.specs.Suits.{Suits};
+ghost use Rattle.gm_script.specs.Suits.{Suits, most_types};
 
 use crate::fault::refused;
 use crate::{Command, LineFault};
@@ -21,7 +21,7 @@ pub(crate) fn read_create(
     name: &[u8],
     spec: &[u8],
 ) -> Result<Command, LineFault>
-    requires { length types.now ≤ 100 }
+    requires { length types.now ≤ most_types }
     ensures reads { Reads (create_of types.now name.now spec.now) result }
     ensures suits { IfOk result (λ c. Suits types.now (order_of c)) }
 {
@@ -41,7 +41,7 @@ pub(crate) fn read_create(
 
 // A further type, where there is room for one.
 fn with_room(types: &TypeList, of: FeatureType) -> Result<Command, LineFault>
-    requires count { length types.now ≤ 100 }
+    requires count { length types.now ≤ most_types }
     requires number { of.number ≡ length types.now }
     requires name { number_of_name types.now of.name ≡ None }
     ensures reads { Reads (create_type types.now of) result }
