@@ -18,10 +18,10 @@ use Rattle.gm_bounds.specs.declared.bound.Bound.TheVariants.{World, Listed}
 use Rattle.gm_bounds.specs.declared.byte_range.ByteRange.{ByteRange}
 use Rattle.gm_bounds.specs.Bound.{Rules, bound_of, all_of, any_of, on}
 use Rattle.gm_bounds.specs.ByteRange.{range, is_void, joined, met}
-use Rattle.gm_bounds.specs.ByteRanges.{compared, compared_form, compared_none, lying_between}
-use Rattle.gm_bounds.specs.ByteRanges.{literal_form, text_form, has_zero, is_blank, begun_by}
-use Rattle.gm_bounds.specs.ByteRanges.{patterned, ranging, ranging_from, ranges_of, range_test}
-use Rattle.gm_bounds.specs.ByteRanges.{range_rules, ranges_at, byte_ranges_of}
+use Rattle.gm_bounds.specs.Values.{compared, compared_form, compared_none, lying_between}
+use Rattle.gm_bounds.specs.Values.{literal_form, text_form, has_zero, is_blank, begun_by}
+use Rattle.gm_bounds.specs.Values.{patterned, ranging, ranging_from, ranges_of, range_test}
+use Rattle.gm_bounds.specs.Values.{range_rules, ranges_at, byte_ranges_of}
 use Rattle.gm_bounds.specs.Lists.{kept, hull_of, capped, pairs, both, counted, single}
 use Rattle.gm_bounds.proofs.InOrder.{Bytes}
 

@@ -33,7 +33,7 @@ use Rattle.gm_filter.specs.declared.filter.Literal.{Literal}
 use Rattle.gm_filter.specs.declared.filter.Literal.TheVariants as literal
 use Rattle.gm_filter.specs.Comparison.{compares, passes, passes_unordered}
 use Rattle.gm_filter.specs.Suitability.{is_literal_of}
-use Rattle.gm_bounds.specs.ByteRanges.{form_of, literal_form, has_zero, is_zero}
+use Rattle.gm_bounds.specs.Values.{form_of, literal_form, has_zero, is_zero}
 use Rattle.gm_bounds.proofs.InOrder.{Bytes, C}
 use Rattle.gm_bounds.proofs.InValues.{AreBytes, IsApart, IsOrdered, same_bytes}
 

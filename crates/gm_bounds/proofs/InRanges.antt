@@ -43,10 +43,10 @@ use Rattle.gm_bounds.specs.declared.bound.Bound.{Bound}
 use Rattle.gm_bounds.specs.declared.bound.Bound.TheVariants.{World}
 use Rattle.gm_bounds.specs.declared.byte_range.ByteRange.{ByteRange}
 use Rattle.gm_bounds.specs.ByteRange.{met, joined, is_void, is_form_in}
-use Rattle.gm_bounds.specs.ByteRanges.{form_of, literal_form, text_form, has_zero, compared}
-use Rattle.gm_bounds.specs.ByteRanges.{compared_form, compared_none, lying_between, range_of}
-use Rattle.gm_bounds.specs.ByteRanges.{ranges_of, beginning, begun_by, patterned, is_blank, ranging}
-use Rattle.gm_bounds.specs.ByteRanges.{range_test, range_rules, ranges_at, byte_ranges_of}
+use Rattle.gm_bounds.specs.Values.{form_of, literal_form, text_form, has_zero, compared}
+use Rattle.gm_bounds.specs.Values.{compared_form, compared_none, lying_between, range_of}
+use Rattle.gm_bounds.specs.Values.{ranges_of, beginning, begun_by, patterned, is_blank, ranging}
+use Rattle.gm_bounds.specs.Values.{range_test, range_rules, ranges_at, byte_ranges_of}
 use Rattle.gm_bounds.specs.Found.{IsFound}
 use Rattle.gm_bounds.specs.Lists.{single}
 use Rattle.gm_bounds.proofs.InForms.{FormLaws, Formed, Compared, compare_forms, date_formed}

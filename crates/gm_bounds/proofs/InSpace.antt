@@ -34,7 +34,7 @@ use Rattle.gm_filter.specs.Tree.{Tree, bbox, intersects, within}
 use Rattle.gm_filter.specs.Trial.{IsKeptValue}
 use Rattle.gm_filter.specs.Truth.{is_true, meets, is_within}
 use Rattle.gm_bounds.specs.declared.bound.Bound.{Bound}
-use Rattle.gm_bounds.specs.Boxes.{box_rules, box_test, box_of, box_of_extent, boxes_of, boxes_at}
+use Rattle.gm_bounds.specs.Space.{box_rules, box_test, box_of, box_of_extent, boxes_of, boxes_at}
 use Rattle.gm_bounds.specs.ClosedBox.{met, joined, is_void, is_in_box, is_found_in, is_geometry_in}
 use Rattle.gm_bounds.specs.ClosedBox.{extent_overlaps}
 use Rattle.gm_bounds.specs.Found.{IsFound}

@@ -17,7 +17,7 @@ use Rattle.gm_filter.specs.declared.filter.Op.{Op}
 use Rattle.gm_filter.specs.declared.filter.Op.TheVariants.{Eq, Ne, Lt, Le, Gt, Ge}
 use Rattle.gm_filter.specs.Comparison.{passes}
 use Rattle.gm_bounds.specs.ByteRange.{range, is_void, is_form_in}
-use Rattle.gm_bounds.specs.ByteRanges.{ranging, ranging_from, beginning, compared_form}
+use Rattle.gm_bounds.specs.Values.{ranging, ranging_from, beginning, compared_form}
 use Rattle.gm_bounds.specs.Found.{IsFound}
 use Rattle.gm_bounds.specs.Lists.{single}
 use Rattle.gm_bounds.proofs.InOrder.{Bytes, C, le, le_trans, full}

@@ -9,9 +9,9 @@ use Rattle.gm_filter.specs.Tree.{Tree}
 use Rattle.gm_bounds.specs.declared.bound.Bound.{Bound}
 use Rattle.gm_bounds.specs.declared.bound.Bound.TheVariants.{World, Listed}
 use Rattle.gm_bounds.specs.declared.interval.Interval.{Interval}
-use Rattle.gm_bounds.specs.Boxes.{boxes_of}
-use Rattle.gm_bounds.specs.ByteRanges.{byte_ranges_of}
-use Rattle.gm_bounds.specs.Intervals.{intervals_of}
+use Rattle.gm_bounds.specs.Space.{boxes_of}
+use Rattle.gm_bounds.specs.Values.{byte_ranges_of}
+use Rattle.gm_bounds.specs.Time.{intervals_of}
 
 abbrev pub is_listed : {X : Type 0} → Bound X → Bool
 is_listed World = false

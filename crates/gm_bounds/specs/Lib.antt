@@ -1,13 +1,13 @@
 pub mod Applicability
 pub mod Bound
-pub mod Boxes
+pub mod Space
 pub mod ByteRange
-pub mod ByteRanges
+pub mod Values
 pub mod ClosedBox
 pub mod Found
 pub mod Identifiers
 pub mod Interval
-pub mod Intervals
+pub mod Time
 pub mod Kept
 pub mod Lists
 pub mod OneValue

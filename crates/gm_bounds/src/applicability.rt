@@ -4,9 +4,9 @@ ghost use Rattle.gm_filter.specs.Suitability.{Suits};
 ghost use Rattle.gm_filter.specs.Tree.{tree};
 ghost use Rattle.gm_bounds.specs.Applicability as spec;
 ghost use Rattle.gm_bounds.specs.Applicability.{does_apply};
-ghost use Rattle.gm_bounds.specs.Boxes.{boxes_of};
-ghost use Rattle.gm_bounds.specs.ByteRanges.{byte_ranges_of};
-ghost use Rattle.gm_bounds.specs.Intervals.{intervals_of};
+ghost use Rattle.gm_bounds.specs.Space.{boxes_of};
+ghost use Rattle.gm_bounds.specs.Values.{byte_ranges_of};
+ghost use Rattle.gm_bounds.specs.Time.{intervals_of};
 
 use crate::{Bound, Interval, attr_bounds, boxes, intervals};
 use gm_base::NoMemory;

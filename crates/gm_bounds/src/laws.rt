@@ -14,14 +14,14 @@ ghost use Rattle.gm_filter.specs.Tree.{Tree};
 ghost use Rattle.gm_filter.specs.Truth.{is_true};
 ghost use Rattle.gm_bounds.specs.declared.bound.Bound.TheVariants.{Listed};
 ghost use Rattle.gm_bounds.specs.declared.byte_range.ByteRange.{ByteRange};
-ghost use Rattle.gm_bounds.specs.Boxes.{boxes_of};
+ghost use Rattle.gm_bounds.specs.Space.{boxes_of};
 ghost use Rattle.gm_bounds.specs.ByteRange.{is_form_in, joined};
-ghost use Rattle.gm_bounds.specs.ByteRanges.{byte_ranges_of, form_of};
+ghost use Rattle.gm_bounds.specs.Values.{byte_ranges_of, form_of};
 ghost use Rattle.gm_bounds.specs.ClosedBox.{is_geometry_in};
 ghost use Rattle.gm_bounds.specs.Found.{IsFound};
 ghost use Rattle.gm_bounds.specs.Identifiers.{ids_of};
 ghost use Rattle.gm_bounds.specs.Interval.{is_date_in};
-ghost use Rattle.gm_bounds.specs.Intervals.{intervals_of};
+ghost use Rattle.gm_bounds.specs.Time.{intervals_of};
 ghost use Rattle.gm_bounds.specs.OneValue.{IsOfOneValue, is_of_one_value};
 
 use gm_feature::fitting_features_have_values;

@@ -7,7 +7,7 @@ ghost use Rattle.gm_filter.specs.Suitability.{Suits};
 ghost use Rattle.gm_filter.specs.Tree.{tree, trees_of};
 ghost use Rattle.gm_bounds.specs.Bound.{bound_of, all_of, any_of, on};
 ghost use Rattle.gm_bounds.specs.Lists.{single, nowhere, anywhere};
-ghost use Rattle.gm_bounds.specs.Boxes.{boxes_of, box_of, box_rules};
+ghost use Rattle.gm_bounds.specs.Space.{boxes_of, box_of, box_rules};
 ghost use Rattle.gm_bounds.specs.ClosedBox as spec;
 ghost use Rattle.gm_bounds.specs.Kept.{HasKept, AllHaveKept};
 

@@ -5,8 +5,8 @@ ghost use Rattle.gm_filter.specs.Tree.{tree, trees_of};
 ghost use Rattle.gm_bounds.specs.Bound.{bound_of, all_of, any_of, on};
 ghost use Rattle.gm_bounds.specs.Lists.{listed, kept, nowhere, anywhere};
 ghost use Rattle.gm_bounds.specs.Interval as interval;
-ghost use Rattle.gm_bounds.specs.Intervals as spec;
-ghost use Rattle.gm_bounds.specs.Intervals.{intervals_of, interval_rules};
+ghost use Rattle.gm_bounds.specs.Time as spec;
+ghost use Rattle.gm_bounds.specs.Time.{intervals_of, interval_rules};
 
 use crate::lists::{capped, counted, join, meet, push_some, single};
 use crate::{Bound, Interval, Intervals};

@@ -9,8 +9,8 @@ ghost use Rattle.gm_filter.specs.Suitability.{Suits};
 ghost use Rattle.gm_filter.specs.Tree.{tree, trees_of};
 ghost use Rattle.gm_bounds.specs.Bound.{bound_of, all_of, any_of, on};
 ghost use Rattle.gm_bounds.specs.ByteRange as range;
-ghost use Rattle.gm_bounds.specs.ByteRanges as spec;
-ghost use Rattle.gm_bounds.specs.ByteRanges.{byte_ranges_of, range_rules};
+ghost use Rattle.gm_bounds.specs.Values as spec;
+ghost use Rattle.gm_bounds.specs.Values.{byte_ranges_of, range_rules};
 ghost use Rattle.gm_bounds.specs.Lists.{single, listed, kept, nowhere, anywhere};
 
 use crate::forms::{has_zero, literal_form, text_form};

@@ -16,7 +16,7 @@ use Rattle.gm_types.specs.FeatureType.{IsType}
 use Rattle.gm_types.specs.Specification.{Specification}
 use Rattle.gm_feature.specs.declared.feature.Feature.{Feature}
 use Rattle.gm_feature.specs.Feature.{Fits}
-use Rattle.gm_feature.specs.Spelling.{feature_bytes}
+use Rattle.gm_feature.specs.Writer.{feature_bytes}
 use Rattle.gm_engine_rows.specs.State.{State, IsState, IsHeld, types_of, type_at, feature_at}
 use Rattle.gm_engine_rows.specs.State.{changed_in}
 use Rattle.gm_engine_rows.specs.Rows.{row_map, rows_of}

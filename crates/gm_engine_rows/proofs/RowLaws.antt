@@ -21,7 +21,7 @@ use Rattle.gm_types.specs.Index.{enabled_indexes}
 use Rattle.gm_types.specs.Specification.{Specification}
 use Rattle.gm_feature.specs.declared.feature.Feature.{Feature}
 use Rattle.gm_feature.specs.Feature.{Fits}
-use Rattle.gm_feature.specs.Spelling.{feature_bytes}
+use Rattle.gm_feature.specs.Writer.{feature_bytes}
 use Rattle.gm_keys.specs.Key.{key_of, keys_of}
 use Rattle.gm_engine_rows.specs.State.{Features, Collection, State, IsState, types_of, type_at}
 use Rattle.gm_engine_rows.specs.State.{features_of, feature_at}

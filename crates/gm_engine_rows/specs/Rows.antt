@@ -8,7 +8,7 @@ use Rattle.gm_types.specs.declared.index.IndexKind.{IndexKind}
 use Rattle.gm_types.specs.Index.{has_index}
 use Rattle.gm_types.specs.Specification.{Specification}
 use Rattle.gm_feature.specs.declared.feature.Feature.{Feature}
-use Rattle.gm_feature.specs.Spelling.{feature_bytes}
+use Rattle.gm_feature.specs.Writer.{feature_bytes}
 use Rattle.gm_keys.specs.Key.{key_of, keys_of}
 use Rattle.gm_engine_rows.specs.State.{Features, State, type_at, feature_at}
 

@@ -19,8 +19,8 @@ use Rattle.gm_feature.specs.Feature.{values_fit}
 use Rattle.gm_feature.specs.Reader.{◌>>=◌, only_if, string_from, signed_from, text_from}
 use Rattle.gm_feature.specs.Reader.{truth_from, instant_from, geometry_from, content_from}
 use Rattle.gm_feature.specs.Reader.{value_from, values_from}
-use Rattle.gm_feature.specs.Spelling.{signed_bytes, string_bytes, truth_byte, presence_byte}
-use Rattle.gm_feature.specs.Spelling.{content_bytes, value_bytes, values_bytes}
+use Rattle.gm_feature.specs.Writer.{signed_bytes, string_bytes, truth_byte, presence_byte}
+use Rattle.gm_feature.specs.Writer.{content_bytes, value_bytes, values_bytes}
 use Rattle.gm_feature.specs.Value.{is_below, is_no_zero, has_text_form, value_fits}
 use Rattle.gm_feature.proofs.Fields.{IsBytes, IsBytes-rest, bind_some, only_some, made_some}
 use Rattle.gm_feature.proofs.Fields.{some_is, Takes, Takes-then, Takes-behind, wide32, wide64}

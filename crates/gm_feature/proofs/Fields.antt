@@ -16,7 +16,7 @@ use Rattle.std.proofs.lemmas.Int.{to_z-of_z, of_z-to_z}
 use Rattle.std.proofs.Math.Facts.{Fits-of_z}
 use borrow.Author.Gap.{read_sfits}
 use mir.Val.{bits}
-use Rattle.gm_feature.specs.Spelling.{signed_bytes, string_bytes, list_bytes}
+use Rattle.gm_feature.specs.Writer.{signed_bytes, string_bytes, list_bytes}
 use Rattle.gm_feature.specs.Reader.{◌>>=◌, only_if, made, number_from, signed_from, string_from}
 use Rattle.gm_feature.specs.Reader.{count_from, members_from, list_from}
 

@@ -16,7 +16,7 @@ use Rattle.gm_geom.specs.declared.validity.GeomFault.TheVariants.{Many, Range, S
 use Rattle.gm_geom.specs.Geometry.{joined, points_of, lines_of, rings_of}
 use Rattle.gm_geom.specs.Validity.{fault_of, is_in_world, is_empty, is_hollow, has_empty_list}
 use Rattle.gm_geom.specs.Validity.{has_one_point, is_closed}
-use Rattle.gm_feature.specs.Spelling.{AreCountedLines, AreCountedAreas}
+use Rattle.gm_feature.specs.Writer.{AreCountedLines, AreCountedAreas}
 
 pub record IsKept (g : Geometry) : Type 0 where
   pub few : length (points_of g) ≤ 10000

@@ -4,7 +4,7 @@ use Rattle.std.specs.Prelude.{codes}
 use Rattle.gm_geom.specs.declared.geometry.Geometry.TheVariants as geo
 use Rattle.gm_geom.specs.declared.point.Point.{Point}
 use Rattle.gm_feature.specs.declared.value.Value.TheVariants as value
-use Rattle.gm_feature.specs.Spelling.{value_bytes, feature_bytes}
+use Rattle.gm_feature.specs.Writer.{value_bytes, feature_bytes}
 
 abbrev at : ℤ → ℤ → Point
 at x y = record { x = x; y = y }

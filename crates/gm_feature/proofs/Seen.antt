@@ -27,7 +27,7 @@ use Rattle.gm_feature.specs.declared.value.Value.{Value}
 use Rattle.gm_feature.specs.declared.value.Value.TheVariants as value
 use Rattle.gm_feature.specs.Feature.{values_fit}
 use Rattle.gm_feature.specs.Reader.{made, identifier_from, geometry_from, value_from, values_from}
-use Rattle.gm_feature.specs.Spelling.{shape_byte, geometry_bytes, values_bytes}
+use Rattle.gm_feature.specs.Writer.{shape_byte, geometry_bytes, values_bytes}
 use Rattle.gm_feature.specs.Stored.{IsStored, AreStored, Says, is_point}
 use Rattle.gm_feature.specs.Value.{value_fits, is_of_kind, is_sound}
 use Rattle.gm_feature.proofs.Contents.{instant_fits, value_again}

@@ -19,9 +19,9 @@ use Rattle.gm_types.specs.declared.kind.GeoKind.{GeoKind}
 use Rattle.gm_feature.specs.Reader.{◌>>=◌, only_if, made, signed_from, point_from, points_from}
 use Rattle.gm_feature.specs.Reader.{lines_from, areas_from, body_from, geometry_from}
 use Rattle.gm_feature.specs.Shape.{has_shape}
-use Rattle.gm_feature.specs.Spelling.{signed_bytes, list_bytes, point_bytes, points_bytes}
-use Rattle.gm_feature.specs.Spelling.{lines_bytes, areas_bytes, shape_byte, body_bytes}
-use Rattle.gm_feature.specs.Spelling.{geometry_bytes, AreCountedLines, AreCountedAreas}
+use Rattle.gm_feature.specs.Writer.{signed_bytes, list_bytes, point_bytes, points_bytes}
+use Rattle.gm_feature.specs.Writer.{lines_bytes, areas_bytes, shape_byte, body_bytes}
+use Rattle.gm_feature.specs.Writer.{geometry_bytes, AreCountedLines, AreCountedAreas}
 use Rattle.gm_feature.proofs.Fields.{IsBytes, IsBytes-rest, bind_some, only_some, made_some}
 use Rattle.gm_feature.proofs.Fields.{some_is, Takes, Takes-then, Takes-behind, wide32, signed_takes}
 use Rattle.gm_feature.proofs.Fields.{signed_again, Reads, ReadsAgain, IsGoodList, list_takes}

@@ -21,8 +21,8 @@ use Rattle.gm_feature.specs.declared.feature.Feature.{Feature}
 use Rattle.gm_feature.specs.declared.value.Value.{Value}
 use Rattle.gm_feature.specs.declared.value.Value.TheVariants as value
 use Rattle.gm_feature.specs.Feature.{Fits, values_fit}
-use Rattle.gm_feature.specs.Spelling.{point_bytes, points_bytes, lines_bytes, body_bytes}
-use Rattle.gm_feature.specs.Spelling.{value_bytes, values_bytes, feature_bytes}
+use Rattle.gm_feature.specs.Writer.{point_bytes, points_bytes, lines_bytes, body_bytes}
+use Rattle.gm_feature.specs.Writer.{value_bytes, values_bytes, feature_bytes}
 use Rattle.gm_feature.specs.Value.{is_no_zero, has_text_form, is_of_kind, is_sound, value_fits}
 use Rattle.gm_feature.proofs.Kept.{kept, no_more_lists, few_in_two, length-joined}
 use Rattle.gm_feature.proofs.Wholes.{short_identifier}

@@ -14,7 +14,7 @@ use Rattle.gm_feature.specs.declared.feature.Feature.{Feature}
 use Rattle.gm_feature.specs.Feature.{Fits, dates_fit}
 use Rattle.gm_feature.specs.Reader.{◌>>=◌, only_if, string_from, identifier_from, values_from}
 use Rattle.gm_feature.specs.Reader.{feature_from}
-use Rattle.gm_feature.specs.Spelling.{string_bytes, values_bytes, feature_bytes}
+use Rattle.gm_feature.specs.Writer.{string_bytes, values_bytes, feature_bytes}
 use Rattle.gm_feature.proofs.Contents.{values_take, values_again}
 use Rattle.gm_feature.proofs.Fields.{IsBytes, bind_some, only_some, Takes, Takes-then, wide16}
 use Rattle.gm_feature.proofs.Fields.{string_takes, string_again}

@@ -1,6 +1,6 @@
 pub mod Shape
 pub mod Value
 pub mod Feature
-pub mod Spelling
+pub mod Writer
 pub mod Reader
 pub mod Stored

@@ -14,7 +14,7 @@ use Rattle.gm_feature.specs.declared.stored.StoredValue.TheVariants as stored
 use Rattle.gm_feature.specs.declared.value.Value.{Value}
 use Rattle.gm_feature.specs.declared.value.Value.TheVariants as value
 use Rattle.gm_feature.specs.Feature.{Fits, values_fit}
-use Rattle.gm_feature.specs.Spelling.{values_bytes, feature_bytes, geometry_bytes}
+use Rattle.gm_feature.specs.Writer.{values_bytes, feature_bytes, geometry_bytes}
 
 -- the feature fits the type, and the bytes are its own
 pub record IsStored (s : Stored) (f : Feature) : Type 0 where

@@ -14,7 +14,7 @@ ghost use Rattle.gm_feature.specs.declared.value.Value.TheVariants.{Date, Text};
 ghost use Rattle.gm_feature.specs.Feature.{Fits, value_at, has_time_index};
 ghost use Rattle.gm_feature.specs.declared.value.Value.{Value};
 ghost use Rattle.gm_feature.specs.Reader.{identifier_from, value_from, feature_from};
-ghost use Rattle.gm_feature.specs.Spelling.{string_bytes, value_bytes, feature_bytes};
+ghost use Rattle.gm_feature.specs.Writer.{string_bytes, value_bytes, feature_bytes};
 ghost use Rattle.gm_feature.specs.Stored.{IsStored};
 ghost use Rattle.gm_feature.specs.Value.{value_fits, is_sound};
 

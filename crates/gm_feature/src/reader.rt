@@ -5,7 +5,7 @@ ghost use Rattle.gm_feature.specs.Feature.{Fits};
 ghost use Rattle.gm_feature.specs.Reader.{Gives, feature_from, identifier_from, values_from};
 ghost use Rattle.gm_feature.specs.Reader.{value_from, content_from, text_from, truth_from};
 ghost use Rattle.gm_feature.specs.Reader.{instant_from};
-ghost use Rattle.gm_feature.specs.Spelling.{feature_bytes};
+ghost use Rattle.gm_feature.specs.Writer.{feature_bytes};
 
 use crate::fit::{dates_fit, has_text_form};
 use crate::halt::Halt;

@@ -12,7 +12,7 @@ ghost use Rattle.gm_feature.specs.declared.value.Value.TheVariants as value;
 ghost use Rattle.gm_feature.specs.Feature.{value_at};
 ghost use Rattle.gm_feature.specs.Reader.{identifier_from, geometry_from, text_from, truth_from};
 ghost use Rattle.gm_feature.specs.Reader.{instant_from, content_from, value_from};
-ghost use Rattle.gm_feature.specs.Spelling.{geometry_bytes};
+ghost use Rattle.gm_feature.specs.Writer.{geometry_bytes};
 ghost use Rattle.gm_feature.specs.Stored.{IsStored, AreStored, Says, is_point};
 
 use crate::cursor::StoredValues;

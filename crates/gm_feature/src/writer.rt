@@ -3,7 +3,7 @@ ghost use Rattle.std.specs.Prelude.{◌≡◌, ◌<◌, ◌^◌, ◌++◌, ◌�
 ghost use Rattle.std.specs.Int.{w32, w64, to_be_bytes};
 ghost use Rattle.gm_geom.specs.Validity.{fault_of};
 ghost use Rattle.gm_feature.specs.Feature.{Fits};
-ghost use Rattle.gm_feature.specs.Spelling as spec;
+ghost use Rattle.gm_feature.specs.Writer as spec;
 ghost use Rattle.gm_feature.specs.Value.{is_sound};
 
 use crate::{Feature, Value};

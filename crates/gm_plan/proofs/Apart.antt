@@ -9,8 +9,8 @@ use Rattle.gm_types.specs.Specification.{Specification, period_of, z2_bits_of, z
 use Rattle.gm_types.specs.Specification.{precision_of}
 use Rattle.gm_filter.specs.Tree.{Tree}
 use Rattle.gm_keys.specs.Key.{prefix_of}
-use Rattle.gm_bounds.specs.Boxes.{boxes_of}
-use Rattle.gm_bounds.specs.Intervals.{intervals_of}
+use Rattle.gm_bounds.specs.Space.{boxes_of}
+use Rattle.gm_bounds.specs.Time.{intervals_of}
 use Rattle.gm_plan.specs.Covering.{CoversPoints, CoversObjects}
 use Rattle.gm_plan.specs.Inside.{read_spans}
 use Rattle.gm_plan.specs.KeyRanges.{list_of}

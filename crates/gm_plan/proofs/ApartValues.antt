@@ -22,10 +22,10 @@ use Rattle.gm_bounds.specs.declared.bound.Bound.TheVariants.{World, Listed}
 use Rattle.gm_bounds.specs.declared.byte_range.ByteRange.{ByteRange}
 use Rattle.gm_bounds.specs.Bound.{on}
 use Rattle.gm_bounds.specs.ByteRange.{range, met, joined, is_void}
-use Rattle.gm_bounds.specs.ByteRanges.{range_test, range_rules, ranges_at, byte_ranges_of, compared}
-use Rattle.gm_bounds.specs.ByteRanges.{compared_form, compared_none, lying_between, literal_form}
-use Rattle.gm_bounds.specs.ByteRanges.{ranging, ranging_from, beginning, begun_by, patterned}
-use Rattle.gm_bounds.specs.ByteRanges.{text_form, is_blank, has_zero, ranges_of}
+use Rattle.gm_bounds.specs.Values.{range_test, range_rules, ranges_at, byte_ranges_of, compared}
+use Rattle.gm_bounds.specs.Values.{compared_form, compared_none, lying_between, literal_form}
+use Rattle.gm_bounds.specs.Values.{ranging, ranging_from, beginning, begun_by, patterned}
+use Rattle.gm_bounds.specs.Values.{text_form, is_blank, has_zero, ranges_of}
 use Rattle.gm_bounds.specs.Lists.{kept, widened, hull_of, capped, pairs_of, pairs, meeting, single}
 use Rattle.gm_bounds.specs.Lists.{listed}
 use Rattle.gm_plan.specs.KeyRanges.{list_of, value_ranges}

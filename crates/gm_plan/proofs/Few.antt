@@ -21,9 +21,9 @@ use Rattle.gm_bounds.specs.declared.bound.Bound.TheVariants.{World, Listed}
 use Rattle.gm_bounds.specs.Bound.{Rules, bound_of, all_of, any_of, on}
 use Rattle.gm_bounds.specs.Lists.{kept, capped, hull_of, both, counted, single, listed, meeting}
 use Rattle.gm_bounds.specs.Lists.{pairs}
-use Rattle.gm_bounds.specs.Boxes.{boxes_of, boxes_at, box_rules, box_test, box_of, box_of_extent}
-use Rattle.gm_bounds.specs.Intervals.{intervals_of, intervals_at, interval_rules, interval_test}
-use Rattle.gm_bounds.specs.Intervals.{lasting, dated, compared, lying_between, instants_of}
+use Rattle.gm_bounds.specs.Space.{boxes_of, boxes_at, box_rules, box_test, box_of, box_of_extent}
+use Rattle.gm_bounds.specs.Time.{intervals_of, intervals_at, interval_rules, interval_test}
+use Rattle.gm_bounds.specs.Time.{lasting, dated, compared, lying_between, instants_of}
 use Rattle.gm_bounds.specs.ClosedBox as box
 use Rattle.gm_bounds.specs.Interval as interval
 use Rattle.gm_plan.specs.KeyRanges.{list_of}

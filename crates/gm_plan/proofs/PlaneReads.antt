@@ -27,7 +27,7 @@ use Rattle.gm_keys.specs.Whereabouts.{point_in, box_in}
 use Rattle.gm_trees.specs.Z.{z_shape}
 use Rattle.gm_trees.specs.Xz.{xz_shape}
 use Rattle.gm_bounds.specs.Applicability.{is_listed}
-use Rattle.gm_bounds.specs.Boxes.{boxes_of}
+use Rattle.gm_bounds.specs.Space.{boxes_of}
 use Rattle.gm_bounds.specs.ClosedBox.{is_in_box, is_geometry_in}
 use Rattle.gm_bounds.specs.Found.{IsFound}
 use Rattle.gm_plan.specs.Covering.{CoversPoints, CoversObjects}

@@ -34,11 +34,11 @@ use Rattle.gm_bounds.specs.declared.bound.Bound.{Bound}
 use Rattle.gm_bounds.specs.declared.bound.Bound.TheVariants.{World, Listed}
 use Rattle.gm_bounds.specs.declared.interval.Interval.{Interval}
 use Rattle.gm_bounds.specs.Applicability.{is_listed, are_bounded}
-use Rattle.gm_bounds.specs.Boxes.{boxes_of}
+use Rattle.gm_bounds.specs.Space.{boxes_of}
 use Rattle.gm_bounds.specs.ClosedBox.{is_in_box, is_geometry_in}
 use Rattle.gm_bounds.specs.Found.{IsFound}
 use Rattle.gm_bounds.specs.Interval.{is_in, is_date_in}
-use Rattle.gm_bounds.specs.Intervals.{intervals_of}
+use Rattle.gm_bounds.specs.Time.{intervals_of}
 use Rattle.gm_plan.specs.Bins.{meets_bin, is_met}
 use Rattle.gm_plan.specs.Covering.{CoversPoints, CoversObjects}
 use Rattle.gm_plan.specs.Inside.{LosesNone, is_inside}

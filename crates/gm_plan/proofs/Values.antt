@@ -26,8 +26,8 @@ use Rattle.gm_bounds.specs.declared.bound.Bound.TheVariants.{World, Listed}
 use Rattle.gm_bounds.specs.declared.byte_range.ByteRange.{ByteRange}
 use Rattle.gm_bounds.specs.Applicability.{does_apply, is_listed}
 use Rattle.gm_bounds.specs.ByteRange.{joined, is_form_in}
-use Rattle.gm_bounds.specs.ByteRanges as bounds
-use Rattle.gm_bounds.specs.ByteRanges.{byte_ranges_of}
+use Rattle.gm_bounds.specs.Values as bounds
+use Rattle.gm_bounds.specs.Values.{byte_ranges_of}
 use Rattle.gm_bounds.specs.Found.{IsFound}
 use Rattle.gm_plan.specs.Inside.{is_inside, IsRead}
 use Rattle.gm_plan.specs.KeyRanges.{list_of, value_range, value_ranges}

@@ -22,10 +22,10 @@ use Rattle.gm_bounds.specs.declared.ranges.KeyRanges.{KeyRanges}
 use Rattle.gm_bounds.specs.declared.ranges.Range.{Range}
 use Rattle.gm_bounds.specs.declared.ranges.Range.TheVariants.{Codes, InBin, Span, Values, OneId}
 use Rattle.gm_bounds.specs.declared.ranges.Range.TheVariants.{All}
-use Rattle.gm_bounds.specs.Boxes.{boxes_of}
-use Rattle.gm_bounds.specs.ByteRanges.{byte_ranges_of}
+use Rattle.gm_bounds.specs.Space.{boxes_of}
+use Rattle.gm_bounds.specs.Values.{byte_ranges_of}
 use Rattle.gm_bounds.specs.Identifiers.{ids_of}
-use Rattle.gm_bounds.specs.Intervals.{intervals_of}
+use Rattle.gm_bounds.specs.Time.{intervals_of}
 use Rattle.gm_plan.specs.Bins.{bins_of}
 use Rattle.gm_plan.specs.Merging.{merged}
 use Rattle.gm_plan.specs.Windows.{windows_of, windows_in}

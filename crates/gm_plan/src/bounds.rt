@@ -2,9 +2,9 @@
 ghost use Rattle.std.specs.Prelude.{◌≡◌, ◌≤◌, length, IfOk};
 ghost use Rattle.gm_filter.specs.Suitability.{Suits};
 ghost use Rattle.gm_filter.specs.Tree.{tree};
-ghost use Rattle.gm_bounds.specs.Boxes.{boxes_of};
-ghost use Rattle.gm_bounds.specs.ByteRanges.{byte_ranges_of};
-ghost use Rattle.gm_bounds.specs.Intervals.{intervals_of};
+ghost use Rattle.gm_bounds.specs.Space.{boxes_of};
+ghost use Rattle.gm_bounds.specs.Values.{byte_ranges_of};
+ghost use Rattle.gm_bounds.specs.Time.{intervals_of};
 ghost use Rattle.gm_plan.specs.KeyRanges.{list_of};
 
 use gm_base::{Items, NoMemory};

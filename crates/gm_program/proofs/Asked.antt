@@ -14,11 +14,11 @@ use Rattle.gm_program.specs.declared.options.WordsFault.TheVariants.{Usage}
 use Rattle.gm_program.specs.declared.setting.Setting.{Setting}
 use Rattle.gm_program.specs.declared.status.Status.{Status}
 use Rattle.gm_program.specs.declared.status.Status.TheVariants as status
-use Rattle.gm_program.specs.Running.{Loads, NeedNoSource, made_output}
+use Rattle.gm_program.specs.Script.{Loads, NeedNoSource, made_output}
 use Rattle.gm_program.specs.Serve.{WritesPart}
 use Rattle.gm_program.specs.Status.{made_status}
 use Rattle.gm_program.specs.Store.{Types}
-use Rattle.gm_program.specs.Usage.{Reads}
+use Rattle.gm_program.specs.Words.{Reads}
 use Rattle.gm_program.proofs.Streaming.{part_whole}
 
 -- ---- the options of the words

@@ -11,7 +11,7 @@ use Rattle.gm_types.specs.Index.{has_index}
 use Rattle.gm_types.specs.Specification.{Specification}
 use Rattle.gm_feature.specs.declared.feature.Feature.{Feature}
 use Rattle.gm_feature.specs.Feature.{Fits}
-use Rattle.gm_feature.specs.Spelling.{feature_bytes}
+use Rattle.gm_feature.specs.Writer.{feature_bytes}
 use Rattle.gm_keys.specs.Key.{prefix_of, front_of, key_of, id_key}
 use Rattle.gm_keys.specs.Layout.{IsLaidOut, IsMiddle}
 use Rattle.gm_engine_rows.specs.State.{State, IsState, type_at, feature_at}

@@ -3,8 +3,8 @@ use Rattle.std.proofs.Common.{◌≡◌, ◌∙◌, false, List, Option, codes, 
 use Rattle.clap.specs.Words.{Text, first_of, first_value, matches_of, rows_of}
 use Rattle.clap.specs.declared.parser.matches.Found.{Found}
 use Rattle.clap.proofs.WalkLemmas.{first_value-rows}
-use Rattle.gm_program.specs.Usage.{generate_value, gm_command, has_fault, options_from, options_of}
-use Rattle.gm_program.specs.Usage.{value_of}
+use Rattle.gm_program.specs.Words.{generate_value, gm_command, has_fault, options_from, options_of}
+use Rattle.gm_program.specs.Words.{value_of}
 
 pub value_is : (f : Found) (words : List Text) (name : Text) (o : Option Text)
     → rows_of f ≡ matches_of gm_command words

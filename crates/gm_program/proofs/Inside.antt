@@ -23,7 +23,7 @@ use Rattle.gm_types.specs.declared.index.IndexKind.TheVariants.{Id, Z2, Z3, Xz2,
 use Rattle.gm_types.specs.Specification.{Specification, shards_of}
 use Rattle.gm_feature.specs.declared.feature.Feature.{Feature}
 use Rattle.gm_feature.specs.Feature.{Fits}
-use Rattle.gm_feature.specs.Spelling.{feature_bytes}
+use Rattle.gm_feature.specs.Writer.{feature_bytes}
 use Rattle.gm_filter.specs.Suitability.{Suits}
 use Rattle.gm_filter.specs.Tree.{Tree}
 use Rattle.gm_filter.specs.Truth.{is_true}

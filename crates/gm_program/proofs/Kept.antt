@@ -14,7 +14,7 @@ use Rattle.gm_base.proofs.Lists.{each_as}
 use Rattle.gm_base.proofs.Lists.{all_append}
 use Rattle.gm_feature.specs.declared.feature.Feature.{Feature}
 use Rattle.gm_feature.specs.declared.value.Value.{Value}
-use Rattle.gm_feature.specs.Spelling.{feature_bytes}
+use Rattle.gm_feature.specs.Writer.{feature_bytes}
 use Rattle.gm_filter.specs.Tree.{Tree}
 use Rattle.gm_filter.specs.Truth.{is_true}
 use Rattle.gm_scan.specs.declared.found_rows.Keeping.{Keeping}

@@ -19,7 +19,7 @@ use Rattle.gm_program.specs.Generator.{generated_script}
 use Rattle.gm_program.specs.Lines.{complete_from, partial_from, lines_of, last_line}
 use Rattle.gm_program.specs.Machine.{Machine, machine_at, after, replies, examined_by, end_turn}
 use Rattle.gm_program.specs.Machine.{output, examined, state_after, last_turn}
-use Rattle.gm_program.specs.Running.{Loads, made_output}
+use Rattle.gm_program.specs.Script.{Loads, made_output}
 use Rattle.gm_program.specs.Serve.{Moment, moment, KeptAt, Goes, Serves, Closes, closing, Writes}
 use Rattle.gm_program.specs.Serve.{WritesPart}
 use Rattle.gm_program.proofs.Cutting.{partial_from-append}

@@ -8,7 +8,7 @@ use Rattle.std.proofs.lemmas.Bool.Decides.{nat_tests}
 use Rattle.clap.specs.Walk.{is_empty}
 use Rattle.gm_base.proofs.Numbers.{no_plus}
 use Rattle.gm_base.proofs.Booleans.{both_of}
-use Rattle.gm_program.specs.Usage.{is_padded_text, is_plain_number, number_between}
+use Rattle.gm_program.specs.Words.{is_padded_text, is_plain_number, number_between}
 
 low_digit : (c : ℕ) → is_ascii_digit c ≡ true → digit_value c < 10
 low_digit c digit = grind (arith, nat_tests)

@@ -22,7 +22,7 @@ use Rattle.gm_script.specs.declared.reply.Reply.TheVariants as reply
 use Rattle.gm_script.specs.Order.{Asked}
 use Rattle.gm_script.specs.Suits.{IsHint}
 use Rattle.gm_strategy.specs.Choice.{Chosen}
-use Rattle.gm_strategy.specs.Plan.{plan_of}
+use Rattle.gm_strategy.specs.Strategy.{plan_of}
 use Rattle.gm_program.specs.Found.{tests_of}
 use Rattle.gm_program.specs.Question.{rows_read, rows_examined}
 use Rattle.gm_program.specs.Serve.{Executes}

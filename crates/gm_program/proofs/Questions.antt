@@ -21,7 +21,7 @@ use Rattle.gm_script.specs.Order.{Asked}
 use Rattle.gm_script.specs.Suits.{IsQuestion}
 use Rattle.gm_strategy.specs.declared.part.Part.{Part}
 use Rattle.gm_strategy.specs.Choice.{Chosen, chosen_of}
-use Rattle.gm_strategy.specs.Plan.{plan_of}
+use Rattle.gm_strategy.specs.Strategy.{plan_of}
 use Rattle.gm_program.specs.declared.execute.plan.Planned.TheVariants as plan
 use Rattle.gm_program.specs.Collecting.{Collected, feature_of, Collects}
 use Rattle.gm_program.specs.Found.{tests_of}

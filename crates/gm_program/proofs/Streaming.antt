@@ -26,7 +26,7 @@ use Rattle.gm_program.specs.declared.pending.Pending.TheVariants.{Nothing}
 use Rattle.gm_program.specs.Store.{Types, HasState}
 use Rattle.gm_program.specs.Serve.{Moment, HasMachine, KeptAt, Takes, Goes, Serves, Closes}
 use Rattle.gm_program.specs.Serve.{closing, Writes, WritesPart, Took, Streams, Breaks, Stopped}
-use Rattle.gm_program.specs.Running.{Finishes}
+use Rattle.gm_program.specs.Script.{Finishes}
 use Rattle.gm_program.proofs.Cutting.{complete_from-append, partial_from-append, complete_from-more}
 use Rattle.gm_program.proofs.Cutting.{partial_from-more, complete_from-all, cut-none, IsInsideLine}
 

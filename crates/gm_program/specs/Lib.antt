@@ -6,9 +6,9 @@ pub mod Step
 pub mod Refusals
 pub mod Machine
 pub mod Serve
-pub mod Usage
+pub mod Words
 pub mod Generator
-pub mod Running
+pub mod Script
 pub mod Status
 pub mod Collecting
 pub mod InOrder

@@ -10,7 +10,7 @@ use Rattle.gm_ecql.specs.Outcome.{MayHold}
 use Rattle.gm_script.specs.Bins.{keeps_bins}
 use Rattle.gm_script.specs.Order.{Asked}
 use Rattle.gm_strategy.specs.Choice.{Chosen}
-use Rattle.gm_strategy.specs.Plan.{plan_of}
+use Rattle.gm_strategy.specs.Strategy.{plan_of}
 use Rattle.gm_program.specs.declared.execute.matched.Matched.{Matched}
 use Rattle.gm_program.specs.declared.execute.matched.Matched.TheVariants as matched
 use Rattle.gm_program.specs.Question.{answer, rows_examined}

@@ -4,7 +4,7 @@ use Rattle.gm_types.specs.Specification.{Specification}
 use Rattle.gm_engine_rows.specs.State.{State}
 use Rattle.gm_script.specs.Order.{Asked}
 use Rattle.gm_strategy.specs.Choice.{Chosen, chosen_of}
-use Rattle.gm_strategy.specs.Plan.{plan_of}
+use Rattle.gm_strategy.specs.Strategy.{plan_of}
 use Rattle.gm_program.specs.declared.execute.plan.Planned.{Planned}
 use Rattle.gm_program.specs.declared.execute.plan.Planned.TheVariants as plan
 use Rattle.gm_program.specs.Step.{Outcome, planned, refused, is_target}

@@ -20,7 +20,7 @@ use Rattle.gm_script.specs.Reply.{row_line}
 use Rattle.gm_script.specs.declared.reply.Reply.{Reply}
 use Rattle.gm_script.specs.declared.reply.Reply.TheVariants as reply
 use Rattle.gm_strategy.specs.Choice.{Chosen}
-use Rattle.gm_strategy.specs.Plan.{plan_of}
+use Rattle.gm_strategy.specs.Strategy.{plan_of}
 use Rattle.gm_program.specs.declared.setting.Setting.{Setting}
 use Rattle.gm_program.specs.Limits.{has_too_many_rows}
 use Rattle.gm_program.specs.Question.{answer, rows_examined, plan_lines}

@@ -5,10 +5,10 @@ ghost use Rattle.gm_engine_rows.specs.State.{State};
 ghost use Rattle.gm_program.specs.Generator.{generated_script, loading};
 ghost use Rattle.gm_program.specs.Lines.{lines_of};
 ghost use Rattle.gm_program.specs.Machine.{machine_at, output, replies};
-ghost use Rattle.gm_program.specs.Running.{made_output};
+ghost use Rattle.gm_program.specs.Script.{made_output};
 ghost use Rattle.gm_program.specs.declared.options.Made.{Made};
 ghost use Rattle.gm_program.specs.declared.setting.Setting.{Setting};
-ghost use Rattle.gm_program.specs.Usage.{made_options, options_of, plain_options};
+ghost use Rattle.gm_program.specs.Words.{made_options, options_of, plain_options};
 
 /// No words ask for the source's script, and `--generate SEED:COUNT` for a made one.
 pub fn words_have_options()

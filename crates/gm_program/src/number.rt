@@ -2,7 +2,7 @@
 ghost use Rattle.std.specs.Prelude.{◌≡◌};
 ghost use Rattle.std.specs.Char.{is_ascii_digit};
 ghost use Rattle.std.specs.List.{list_all};
-ghost use Rattle.gm_program.specs.Usage.{is_padded_text, is_plain_number, number_between};
+ghost use Rattle.gm_program.specs.Words.{is_padded_text, is_plain_number, number_between};
 
 // The number that the text writes, if it lies between these two.
 pub(crate) fn number_in(text: &str, least: u64, most: u64) -> Option<u64>

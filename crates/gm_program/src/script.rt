@@ -6,13 +6,13 @@ ghost use Rattle.gm_outside.specs.Failed.{Rose};
 ghost use Rattle.gm_program.specs.Generator.{loading};
 ghost use Rattle.gm_program.specs.Lines.{cut, last_line, lines_of};
 ghost use Rattle.gm_program.specs.Machine.{Machine, replies};
-ghost use Rattle.gm_program.specs.Running.{Ends, Finishes, Loads, RepliesToTaken, CanBeRead};
-ghost use Rattle.gm_program.specs.Running.{NeedNoSource, made_output, setting_of, whole_output};
+ghost use Rattle.gm_program.specs.Script.{Ends, Finishes, Loads, RepliesToTaken, CanBeRead};
+ghost use Rattle.gm_program.specs.Script.{NeedNoSource, made_output, setting_of, whole_output};
 ghost use Rattle.gm_engine_rows.specs.State.{State};
 ghost use Rattle.gm_program.specs.Store.{Holds, HasState};
 ghost use Rattle.gm_program.specs.Serve.{moment, Keeps, HasMachine, Serves, Closes, closing};
 ghost use Rattle.gm_program.specs.Serve.{WritesPart, Streams, Breaks, Stopped, HasCause};
-ghost use Rattle.gm_program.specs.Usage.{options_of};
+ghost use Rattle.gm_program.specs.Words.{options_of};
 
 use crate::options::{Made, WordsFault};
 use crate::pending::Pending;

@@ -1,8 +1,8 @@
 // The words after the program's name, read by `clap` as one simple command of one option.
 ghost use Rattle.std.specs.Prelude.{◌≡◌, IfOk, IfErr, true, false, map, option_map};
 ghost use Rattle.clap.specs.Words.{app_of, found_of, rows_of, matches_of};
-ghost use Rattle.gm_program.specs.Usage.{Reads, gm_command, generate_value};
-ghost use Rattle.gm_program.specs.Usage.{has_fault, options_of, pair_value};
+ghost use Rattle.gm_program.specs.Words.{Reads, gm_command, generate_value};
+ghost use Rattle.gm_program.specs.Words.{has_fault, options_of, pair_value};
 ghost use Rattle.gm_program.specs.declared.options.WordsFault.TheVariants.{Usage};
 
 use crate::number::number_in;

@@ -1,7 +1,7 @@
 -- What is kept of features that are found.
 use Rattle.std.specs.Prelude.{ℕ, List, []}
 use Rattle.gm_feature.specs.declared.feature.Feature.{Feature}
-use Rattle.gm_feature.specs.Spelling.{feature_bytes}
+use Rattle.gm_feature.specs.Writer.{feature_bytes}
 use Rattle.gm_scan.specs.declared.found_rows.Keeping.{Keeping}
 use Rattle.gm_scan.specs.declared.found_rows.Keeping.TheVariants.{Rows, Ids}
 

@@ -1,7 +1,7 @@
 // The rows that a scan has found, as they stand.
 ghost use Rattle.std.specs.Prelude.{◌≡◌};
 ghost use Rattle.gm_feature.specs.declared.feature.Feature.{Feature};
-ghost use Rattle.gm_feature.specs.Spelling.{feature_bytes};
+ghost use Rattle.gm_feature.specs.Writer.{feature_bytes};
 ghost use Rattle.gm_scan.specs.FoundRows.{kept_of};
 ghost use Rattle.gm_scan.specs.Held.{HasFeature};
 ghost use Rattle.gm_scan.specs.Kept.{takes_row};

@@ -19,7 +19,7 @@ use Rattle.gm_filter.specs.Truth.{is_true}
 use Rattle.gm_strategy.specs.Branches.{branches_of, trees_in}
 use Rattle.gm_strategy.specs.Choice.{Chosen, chosen, choice_of, chosen_for, IsServed}
 use Rattle.gm_strategy.specs.Cost.{cost_of}
-use Rattle.gm_strategy.specs.Plan.{is_bounded, is_split, parts_of, plan_of}
+use Rattle.gm_strategy.specs.Strategy.{is_bounded, is_split, parts_of, plan_of}
 use Rattle.gm_strategy.proofs.Branching.{branches_decide, branches_suit, some_branch}
 use Rattle.gm_strategy.proofs.Choosing.{served, choice_served}
 use Rattle.gm_strategy.proofs.Gathering.{few}

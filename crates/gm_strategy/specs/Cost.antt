@@ -9,7 +9,7 @@ use Rattle.gm_bounds.specs.declared.bound.Bound.{Bound}
 use Rattle.gm_bounds.specs.declared.bound.Bound.TheVariants.{World, Listed}
 use Rattle.gm_bounds.specs.declared.byte_range.ByteRange.{ByteRange}
 use Rattle.gm_bounds.specs.Applicability.{does_apply, is_listed}
-use Rattle.gm_bounds.specs.ByteRanges.{byte_ranges_of}
+use Rattle.gm_bounds.specs.Values.{byte_ranges_of}
 use Rattle.gm_bounds.specs.Identifiers.{ids_of}
 use Rattle.gm_bounds.specs.OneValue.{are_of_one_value}
 

@@ -1,4 +1,4 @@
 pub mod Branches
 pub mod Choice
 pub mod Cost
-pub mod Plan
+pub mod Strategy

@@ -9,7 +9,7 @@ ghost use Rattle.gm_filter.specs.Suitability.{Suits};
 ghost use Rattle.gm_filter.specs.Tree.{Tree};
 ghost use Rattle.gm_filter.specs.Truth.{is_true};
 ghost use Rattle.gm_strategy.specs.Choice.{Chosen, IsServed, IsFirstOfLeast, choice_of};
-ghost use Rattle.gm_strategy.specs.Plan.{plan_of};
+ghost use Rattle.gm_strategy.specs.Strategy.{plan_of};
 
 use gm_filter::members_decide;
 

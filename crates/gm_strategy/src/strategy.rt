@@ -8,7 +8,7 @@ ghost use Rattle.gm_filter.specs.Tree.{tree};
 ghost use Rattle.gm_strategy.specs.declared.fault.ChooseFault.TheVariants as fault;
 ghost use Rattle.gm_strategy.specs.Branches.{branches_of, trees_in};
 ghost use Rattle.gm_strategy.specs.Choice.{chosen, chosen_of, chosen_for};
-ghost use Rattle.gm_strategy.specs.Plan.{is_bounded, is_split, parts_of, plan_of};
+ghost use Rattle.gm_strategy.specs.Strategy.{is_bounded, is_split, parts_of, plan_of};
 
 use crate::branches::{BRANCH_LIMIT, first_branches};
 use crate::choice::{Choice, choice_for};

@@ -1,7 +1,7 @@
 use Rattle.std.proofs.Common.{ℕ, ◌<◌, []}
 use Rattle.std.proofs.lemmas.List.Elements.{All-from_recursion}
 use Rattle.gm_bounds.proofs.InRanges.{found_alone}
-use Rattle.gm_bounds.specs.ByteRanges.{form_of, byte_ranges_of}
+use Rattle.gm_bounds.specs.Values.{form_of, byte_ranges_of}
 use Rattle.gm_feature.specs.Feature.{value_at}
 use Rattle.gm_bounds.proofs.laws.forms_are_in_ranges.Goals as goal
 

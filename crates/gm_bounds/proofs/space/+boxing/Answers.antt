@@ -1,4 +1,4 @@
-use Rattle.gm_bounds.specs.Boxes.{box_rules}
+use Rattle.gm_bounds.specs.Space.{box_rules}
 use Rattle.gm_bounds.proofs.Members.{next_all, next_any, next_kept}
 use Rattle.gm_bounds.proofs.space.+boxing.Goals as goal
 

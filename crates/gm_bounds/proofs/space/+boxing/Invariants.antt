@@ -2,7 +2,7 @@ use Rattle.std.proofs.Common.{◌≡◌, map, drop}
 use Rattle.gm_filter.specs.Tree.{tree, trees_of}
 use Rattle.gm_bounds.specs.Bound.{all_of, any_of}
 use Rattle.gm_bounds.specs.Lists.{anywhere, nowhere}
-use Rattle.gm_bounds.specs.Boxes.{box_rules}
+use Rattle.gm_bounds.specs.Space.{box_rules}
 use Rattle.gm_bounds.specs.Kept.{AllHaveKept}
 use Rattle.gm_bounds.proofs.space.+boxing.Given as goal
 

@@ -1,4 +1,4 @@
-use Rattle.gm_bounds.specs.Intervals.{interval_rules}
+use Rattle.gm_bounds.specs.Time.{interval_rules}
 use Rattle.gm_bounds.proofs.Members.{next_all, next_any, at_and, at_or}
 use Rattle.gm_bounds.proofs.time.+timing.Goals as goal
 

@@ -2,7 +2,7 @@ use Rattle.std.proofs.Common.{◌≡◌, map, drop}
 use Rattle.gm_filter.specs.Tree.{tree, trees_of}
 use Rattle.gm_bounds.specs.Bound.{all_of, any_of}
 use Rattle.gm_bounds.specs.Lists.{anywhere, nowhere}
-use Rattle.gm_bounds.specs.Intervals.{interval_rules}
+use Rattle.gm_bounds.specs.Time.{interval_rules}
 use Rattle.gm_bounds.proofs.time.+timing.Given as goal
 
 abbrev pub invariant-intervals_in_all-members : goal.invariant-intervals_in_all-members

@@ -1,4 +1,4 @@
-use Rattle.gm_bounds.specs.ByteRanges.{range_rules}
+use Rattle.gm_bounds.specs.Values.{range_rules}
 use Rattle.gm_bounds.proofs.Members.{next_all, next_any, at_and, at_or}
 use Rattle.gm_bounds.proofs.values.+valuing.Goals as goal
 

@@ -1,6 +1,6 @@
 use Rattle.std.proofs.Common.{refl, sym, ◌∙◌}
 use Rattle.gm_geom.specs.Geometry.{points_of}
-use Rattle.gm_feature.specs.Spelling.{geometry_bytes}
+use Rattle.gm_feature.specs.Writer.{geometry_bytes}
 use Rattle.gm_feature.proofs.Boxes.{extent_is_least}
 use Rattle.gm_feature.proofs.Seen.{has_extent}
 use Rattle.gm_feature.proofs.stored.stored_lists.Goals as goal

@@ -9,7 +9,7 @@ use Rattle.gm_geom.specs.Validity.{fault_of}
 use Rattle.gm_types.specs.declared.kind.GeoKind.TheVariants as shape
 use Rattle.gm_feature.specs.Reader.{geometry_from}
 use Rattle.gm_feature.specs.Shape.{has_shape}
-use Rattle.gm_feature.specs.Spelling.{geometry_bytes}
+use Rattle.gm_feature.specs.Writer.{geometry_bytes}
 use Rattle.gm_feature.proofs.Fields.{some_is}
 use Rattle.gm_feature.proofs.Seen.{whole_again}
 use Rattle.gm_feature.proofs.Shapes.{geometry_takes}

@@ -1,6 +1,6 @@
 use Rattle.std.proofs.Common.{◌≡◌, ◌++◌, take}
 use Rattle.std.specs.Int.{w16}
-use Rattle.gm_feature.specs.Spelling.{string_bytes, values_bytes}
+use Rattle.gm_feature.specs.Writer.{string_bytes, values_bytes}
 use Rattle.gm_feature.proofs.writer.to_bytes.Given as goal
 
 abbrev pub invariant-values : goal.invariant-values

@@ -1,9 +1,9 @@
 use Rattle.gm_trees.specs.Xz.{xz_shape}
 use Rattle.gm_trees.specs.Z.{z_shape}
 use Rattle.gm_types.specs.Specification.{period_of, precision_of, z2_bits_of, z3_bits_of}
-use Rattle.gm_bounds.specs.Boxes.{boxes_of}
+use Rattle.gm_bounds.specs.Space.{boxes_of}
 use Rattle.gm_bounds.specs.Identifiers.{ids_of}
-use Rattle.gm_bounds.specs.Intervals.{intervals_of}
+use Rattle.gm_bounds.specs.Time.{intervals_of}
 use Rattle.gm_plan.specs.KeyRanges.{list_of}
 use Rattle.gm_plan.specs.Windows.{windows_of}
 use Rattle.gm_plan.proofs.FewRanges.{plane_few, space_few, id_count}

@@ -1,4 +1,4 @@
-use Rattle.gm_bounds.specs.ByteRanges.{byte_ranges_of}
+use Rattle.gm_bounds.specs.Values.{byte_ranges_of}
 use Rattle.gm_plan.proofs.Values.{few_values}
 use Rattle.gm_plan.proofs.laws.value_ranges_are_few.Goals as goal
 

@@ -1,7 +1,7 @@
 use Rattle.std.proofs.Common.{rules, ap, ap₂, true, codes, ◌≡◌, ◌∙◌}
 use Rattle.clap.specs.Words.{app_of, rule_of, with_rule, new_app}
 use Rattle.clap.specs.Simple.{app_of_fields, on_top}
-use Rattle.gm_program.specs.Usage.{bare_command, option_rule}
+use Rattle.gm_program.specs.Words.{bare_command, option_rule}
 use Rattle.gm_program.proofs.words.command.Goals as goal
 
 pub returns : goal.returns

@@ -1,7 +1,7 @@
 use Rattle.std.proofs.Common.{rules, ap, sym, map, option_map, codes, false, List, Option, ℕ, ◌≡◌}
 use Rattle.std.proofs.Common.{◌∙◌}
 use Rattle.clap.specs.Words.{found_of, matches_of, rows_of}
-use Rattle.gm_program.specs.Usage.{gm_command, has_fault, options_from, value_of}
+use Rattle.gm_program.specs.Words.{gm_command, has_fault, options_from, value_of}
 use Rattle.gm_program.proofs.Found.{options_are, value_is}
 use Rattle.gm_program.proofs.words.read_words.Goals as goal
 

@@ -5,7 +5,7 @@ use Rattle.gm_filter.specs.declared.filter.Filter.{Filter}
 use Rattle.gm_filter.specs.Suitability.{Suits}
 use Rattle.gm_filter.specs.Tree.{tree}
 use Rattle.gm_strategy.specs.declared.choice.Choice.{Choice}
-use Rattle.gm_strategy.specs.Plan.{is_bounded}
+use Rattle.gm_strategy.specs.Strategy.{is_bounded}
 use Rattle.gm_strategy.proofs.Plans.{suit_at, unbounded_at}
 use Rattle.gm_strategy.proofs.strategy.parts_of_branches.Goals as goal
 

@@ -2,7 +2,7 @@ use Rattle.std.proofs.Common.{◌≡◌, true, map, take}
 use Rattle.std.specs.List.{list_all}
 use Rattle.gm_strategy.specs.Branches.{trees_in}
 use Rattle.gm_strategy.specs.Choice.{chosen_of, chosen_for}
-use Rattle.gm_strategy.specs.Plan.{is_bounded}
+use Rattle.gm_strategy.specs.Strategy.{is_bounded}
 use Rattle.gm_strategy.proofs.strategy.parts_of_branches.Given as goal
 
 abbrev pub invariant-branches : goal.invariant-branches

@@ -1,4 +1,4 @@
-use Rattle.gm_feature.specs.Spelling.{values_bytes}
+use Rattle.gm_feature.specs.Writer.{values_bytes}
 use Rattle.gm_feature.proofs.Seen.{first_read, no_first}
 use Rattle.gm_feature.proofs.cursor.StoredValues.next.Goals as goal
 

@@ -1,4 +1,4 @@
-use Rattle.gm_feature.specs.Spelling.{values_bytes}
+use Rattle.gm_feature.specs.Writer.{values_bytes}
 use Rattle.gm_feature.proofs.Leaps.{identifier_string}
 use Rattle.gm_feature.proofs.Seen.{stored_identifier}
 use Rattle.gm_feature.proofs.stored.Stored.id.Goals as goal

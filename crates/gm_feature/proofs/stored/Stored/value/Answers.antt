@@ -3,7 +3,7 @@ use Rattle.gm_types.specs.declared.attribute.Attribute.{Attribute}
 use Rattle.gm_feature.specs.declared.value.Value.TheVariants as value
 use Rattle.gm_feature.specs.Feature.{values_fit}
 use Rattle.gm_feature.specs.Reader.{value_from, values_from}
-use Rattle.gm_feature.specs.Spelling.{values_bytes}
+use Rattle.gm_feature.specs.Writer.{values_bytes}
 use Rattle.gm_feature.proofs.Fitting.{kinds}
 use Rattle.gm_feature.proofs.Seen.{stored_identifier, values_before, value_there, no_value_there}
 use Rattle.gm_feature.proofs.stored.Stored.value.Goals as goal

@@ -1,7 +1,7 @@
 use Rattle.std.proofs.Common.{◌≡◌, true, List, sym, subst, ◌∙◌}
 use Rattle.gm_types.specs.declared.attribute.Attribute.{Attribute}
 use Rattle.gm_feature.specs.Feature.{values_fit}
-use Rattle.gm_feature.specs.Spelling.{values_bytes}
+use Rattle.gm_feature.specs.Writer.{values_bytes}
 use Rattle.gm_feature.proofs.Fitting.{kinds}
 use Rattle.gm_feature.proofs.Seen.{stored_identifier}
 use Rattle.gm_feature.proofs.stored.Stored.values.Goals as goal
