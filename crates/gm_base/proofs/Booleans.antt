@@ -31,6 +31,10 @@ pub and_false : (a : Bool) → (a && false) ≡ false
 and_false true = refl
 and_false false = refl
 
+pub and_true : (a : Bool) → (a && true) ≡ a
+and_true true = refl
+and_true false = refl
+
 pub or_true : (a : Bool) → (a || true) ≡ true
 or_true true = refl
 or_true false = refl

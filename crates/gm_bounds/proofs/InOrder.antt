@@ -33,11 +33,6 @@ pub le_trans : (a b c : Bytes) → le a b ≡ true → le b c ≡ true → le a 
 le_trans a b c h g =
     le_of_not_gt (C a c) (upto nat_list_cmp_total a b c (le_not_gt (C a b) h) (le_not_gt (C b c) g))
 
-turned : (o : Ordering) → is_le o ≡ false → is_le (ordering_reverse o) ≡ true
-turned Less h = absurd (true≢false h)
-turned Equal h = absurd (true≢false h)
-turned Greater h = refl
-
 not_lt_le : (o : Ordering) → is_lt o ≡ false → is_le (ordering_reverse o) ≡ true
 not_lt_le Less h = absurd (true≢false h)
 not_lt_le Equal h = refl

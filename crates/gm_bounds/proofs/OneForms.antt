@@ -24,6 +24,7 @@ use Rattle.std.specs.Option.{option_eq}
 use Rattle.byteorder.specs.Endian.{big_bytes, big_from}
 use Rattle.byteorder.specs.Numbers.{big_from-cons, big_from-lt, big_number-reads_back}
 use Rattle.byteorder.specs.Numbers.{length-bytes_high_first}
+use Rattle.gm_base.proofs.Booleans.{and_true}
 use Rattle.gm_base.proofs.Numbers.{le_from, le_to, pow256}
 use Rattle.gm_calendar.specs.Instant.{IsInstant, is_instant}
 use Rattle.gm_lexi.specs.Ends.{after_of}
@@ -381,7 +382,3 @@ pub wide_is : (k : ℕ) (form : Bytes) → ((i : ℕ) → Fits w8 (get_or form i
 wide_is k form small =
     sym (ap (λ b. eqb (length form) k && b) (are_fitting form small)
     ∙ and_true (eqb (length form) k))
-  where
-    and_true : (b : Bool) → (b && true) ≡ b
-    and_true true = refl
-    and_true false = refl

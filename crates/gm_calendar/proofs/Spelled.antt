@@ -4,14 +4,16 @@ use Rattle.std.proofs.Common.{le-leb, leb-true, leb as nat_le, lt-ltb, ltb-true,
 use Rattle.std.proofs.Common.{◌++◌, length, take, drop, fold, Some, None, ℤ, pos, neg_ℤ, ◌+ℤ◌, ◌*ℤ◌}
 use Rattle.std.proofs.Common.{refl, sym, ap, ◌∙◌, subst, inl, inr, arith, append_assoc}
 use Rattle.std.proofs.Common.{length-append, nat_lt}
-use Rattle.std.specs.Prelude.{Option, ◌↔◌, slice_index, slice_range, int_le, ◌≤ℤ◌}
+use Rattle.std.specs.Prelude.{Option, ◌↔◌, slice_index, slice_range, int_le}
 use Rattle.std.specs.List.{list_all, list_any, prefix_len}
 use Rattle.std.specs.Char.{is_ascii_digit}
 use Rattle.std.proofs.lemmas.Bool.{and_parts, and_from, or_from, both_ways, ne_eqb, cases_Bool}
 use Rattle.std.proofs.lemmas.Bool.{eqb-true}
-use Rattle.std.proofs.lemmas.Int.{ints}
 use Rattle.std.proofs.lemmas.List.{take-append-drop}
 use Rattle.std.proofs.lemmas.List.Folds.{list_all-append}
+use Rattle.gm_base.proofs.Lists.{take_front, drop_front}
+use Rattle.gm_base.proofs.Numbers.{le_from, le_to}
+use Rattle.gm_base.proofs.Options.{same_some}
 use Rattle.jiff_core.specs.Calendar.{days_from_civil}
 use Rattle.jiff_core.proofs.SignedLemmas.{signed_arith}
 use Rattle.gm_calendar.specs.Calendar.{days_of_month}
@@ -224,17 +226,9 @@ front : (n : ℕ) (xs ys : List ℕ) → length xs ≡ n
     → (take n (xs ++ ys) ≡ xs) × (drop n (xs ++ ys) ≡ ys)
 front n xs ys e = (
   ap (λ (k : ℕ). take k (xs ++ ys)) (sym e)
-      ∙ taken xs ys,
-  ap (λ (k : ℕ). drop k (xs ++ ys)) (sym e) ∙ dropped xs ys,
+      ∙ take_front xs ys,
+  ap (λ (k : ℕ). drop k (xs ++ ys)) (sym e) ∙ drop_front xs ys,
 )
-  where
-    taken : (xs ys : List ℕ) → take (length xs) (xs ++ ys) ≡ xs
-    taken [] ys = refl
-    taken (x ∷ xs) ys = ap (λ t. x ∷ t) (taken xs ys)
-
-    dropped : (xs ys : List ℕ) → drop (length xs) (xs ++ ys) ≡ ys
-    dropped [] ys = refl
-    dropped (x ∷ xs) ys = dropped xs ys
 
 time_read : (text : List ℕ) (ms : ℤ) → SpellsTime text ms → behind_date text ≡ Some ms
 time_read text ms (inl none) = rw (none.0, none.1) refl
@@ -269,9 +263,6 @@ instant_read text at s =
 no_value : (ms : ℤ) → None ≡ Some ms → ⊥
 no_value ms e = cc
 
-some_value : (a b : ℤ) → Some a ≡ Some b → a ≡ b
-some_value a b e = cc
-
 digits_split : (count : ℕ) (text : List ℕ) (n : ℕ) → length text ≡ count → number_of text ≡ Some n
     → SpellsDigits count text n
 digits_split count text n long r = elim (cases_Bool (list_all is_ascii_digit text)) [
@@ -305,7 +296,7 @@ date_at_split (Some y) (Some m) (Some d) ms r = elim (cases_Bool (is_date y m d)
     month_is = refl;
     day_is = refl;
     dated = t;
-    value = some_value _ ms (rw t at r);
+    value = same_some _ ms (rw t at r);
   }
   | inr t ↦ absurd (no_value ms (rw t at r))
 ]
@@ -377,7 +368,7 @@ clock_at_split (Some h) (Some m) ms r = elim (cases_Bool (nat_lt h 24 && nat_lt 
         in_day = ltb-true h 24 tests.0;
         in_hour = ltb-true m 60 tests.1;
         value =
-            some_value _ ms (rw t at r);
+            same_some _ ms (rw t at r);
       }
   | inr t ↦ absurd (no_value ms (rw t at r))
 ]
@@ -414,7 +405,7 @@ clock_split text ms r = elim (cases_Bool ((length text == 5) && (slice_index tex
 negative_split : (o : Option ℤ) (ms : ℤ) → negative_of o ≡ Some ms
     → (ahead : ℤ) × (o ≡ Some ahead) × (ms ≡ neg_ℤ ahead)
 negative_split None ms r = absurd (no_value ms r)
-negative_split (Some a) ms r = (a, refl, sym (some_value (neg_ℤ a) ms r))
+negative_split (Some a) ms r = (a, refl, sym (same_some (neg_ℤ a) ms r))
 
 empty : (xs : List ℕ) → length xs ≡ 0 → xs ≡ []
 empty [] e = refl
@@ -423,7 +414,7 @@ empty (x ∷ xs) e = absurd (omega (arith, e))
 utc_split : (rest : List ℕ) (ms : ℤ) → cond (length rest == 0) (Some (pos 0)) None ≡ Some ms
     → (rest ≡ []) × (ms ≡ pos 0)
 utc_split rest ms r = elim (cases_Bool (length rest == 0)) [
-  | inl t ↦ (empty rest (eqb-true (length rest) 0 t), sym (some_value (pos 0) ms (rw t at r)))
+  | inl t ↦ (empty rest (eqb-true (length rest) 0 t), sym (same_some (pos 0) ms (rw t at r)))
   | inr t ↦ absurd (no_value ms (rw t at r))
 ]
 
@@ -438,7 +429,7 @@ ahead_split mark rest ms e r = let p = negative_split (clock_of rest) ms r in
     inr (p.0, shift_split 43 mark rest p.0 e p.1, p.2)
 
 zone_split : (text : List ℕ) (ms : ℤ) → zone_of text ≡ Some ms → SpellsZone text ms
-zone_split [] ms r = inl (inl refl, sym (some_value (pos 0) ms r))
+zone_split [] ms r = inl (inl refl, sym (same_some (pos 0) ms r))
 zone_split (mark ∷ rest) ms r = elim (cases_Bool (mark == 90)) [
   | inl z ↦ let p = utc_split rest ms (rw z at r) in
       inl (inr (ap (λ m. m ∷ rest) (eqb-true mark 90 z) ∙ ap (λ t. 90 ∷ t) p.0), p.1)
@@ -460,7 +451,7 @@ record Sum (o p : Option ℤ) (ms : ℤ) : Type 0 where
 
 sum_split : (o p : Option ℤ) (ms : ℤ) → sum_of o p ≡ Some ms → Sum o p ms
 sum_split (Some a) (Some b) ms r =
-    record { a = a; b = b; first = refl; second = refl; value = some_value (a +ℤ b) ms r }
+    record { a = a; b = b; first = refl; second = refl; value = same_some (a +ℤ b) ms r }
 sum_split None p ms r = absurd (no_value ms r)
 sum_split (Some a) None ms r = absurd (no_value ms r)
 
@@ -500,7 +491,7 @@ fraction_split digits ms all r =
             are_digits = all;
             some = some;
             few = few;
-            value = some_value (pos (fraction_ms digits)) ms
+            value = same_some (pos (fraction_ms digits)) ms
                 (sym (fraction_read digits some few) ∙ r);
             written = refl;
           }
@@ -552,7 +543,7 @@ second_at_split : (o : Option ℕ) (ms : ℤ) → second_at o ≡ Some ms
     → (n : ℕ) × (o ≡ Some n) × (n < 60) × (pos (n * second_ms) ≡ ms)
 second_at_split None ms r = absurd (no_value ms r)
 second_at_split (Some n) ms r = elim (cases_Bool (nat_lt n 60)) [
-  | inl t ↦ (n, refl, ltb-true n 60 t, some_value (pos (n * second_ms)) ms (rw t at r))
+  | inl t ↦ (n, refl, ltb-true n 60 t, same_some (pos (n * second_ms)) ms (rw t at r))
   | inr t ↦ absurd (no_value ms (rw t at r))
 ]
 
@@ -606,7 +597,7 @@ minutes_split (mark ∷ rest) ms r = elim (cases_Bool (mark == 58)) [
         }
 
 time_split : (text : List ℕ) (ms : ℤ) → behind_date text ≡ Some ms → SpellsTime text ms
-time_split [] ms r = inl (refl, sym (some_value (pos 0) ms r))
+time_split [] ms r = inl (refl, sym (same_some (pos 0) ms r))
 time_split (mark ∷ rest) ms r = elim (cases_Bool (mark == 84)) [
   | inl t ↦ inr (marked (eqb-true mark 84 t)
       (sum_split (clock_of (take 5 rest)) (behind_minutes (drop 5 rest)) ms (rw t at r)))
@@ -636,16 +627,13 @@ is_instant-true : (ms : ℤ) → is_instant ms ≡ true → IsInstant ms
 is_instant-true ms t =
     let tests = and_parts (int_le (neg_ℤ (pos ms_before_1970)) ms)
     (int_le ms (pos last_instant)) t in
-    (at_most (neg_ℤ (pos ms_before_1970)) ms tests.0, at_most ms (pos last_instant) tests.1)
-  where
-    at_most : (a b : ℤ) → int_le a b ≡ true → a ≤ℤ b
-    at_most a b e = grind (arith, ints)
+    (le_from (neg_ℤ (pos ms_before_1970)) ms tests.0, le_from ms (pos last_instant) tests.1)
 
 within_split : (o : Option ℤ) (at : ℤ) → instant_from o ≡ Some at → (o ≡ Some at) × IsInstant at
 within_split None at r = absurd (no_value at r)
 within_split (Some ms) at r = elim (cases_Bool (is_instant ms)) [
   | inl t ↦
-      let same : ms ≡ at = some_value ms at (rw t at r) in
+      let same : ms ≡ at = same_some ms at (rw t at r) in
       (ap Some same, subst IsInstant same (is_instant-true ms t))
   | inr t ↦ absurd (no_value at (rw t at r))
 ]
@@ -672,7 +660,7 @@ pub instant_is_spelled : (text : List ℕ) (at : ℤ)
 instant_is_spelled text at = (instant_read text at, instant_split text at)
 
 pub one_instant : (text : List ℕ) (a b : ℤ) → SpellsInstant text a → SpellsInstant text b → a ≡ b
-one_instant text a b s t = some_value a b (sym (instant_read text a s) ∙ instant_read text b t)
+one_instant text a b s t = same_some a b (sym (instant_read text a s) ∙ instant_read text b t)
 
 -- the bytes of each part are bytes of instants
 abbrev HaveInstantBytes : List ℕ → Type 0
@@ -763,13 +751,10 @@ spelled_lacks text at byte s other = apart byte text (spelled_bytes text at s) o
 pub instant_is_tested : (ms : ℤ) → IsInstant ms ↔ (is_instant ms ≡ true)
 instant_is_tested ms = (from_bounds, is_instant-true ms)
   where
-    tested : (a b : ℤ) → a ≤ℤ b → int_le a b ≡ true
-    tested a b e = grind (arith, ints)
-
     from_bounds : IsInstant ms → is_instant ms ≡ true
     from_bounds h =
         and_from (int_le (neg_ℤ (pos ms_before_1970)) ms) (int_le ms (pos last_instant))
-        (tested (neg_ℤ (pos ms_before_1970)) ms h.0) (tested ms (pos last_instant) h.1)
+        (le_to (neg_ℤ (pos ms_before_1970)) ms h.0) (le_to ms (pos last_instant) h.1)
 
 -- a printed instant
 pub printed_is_spelled : (at : ℤ) → IsInstant at → SpellsInstant (instant_text at) at

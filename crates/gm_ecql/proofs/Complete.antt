@@ -1,6 +1,6 @@
 -- A piece that spells a token is what the scanner finds.
-use Rattle.std.proofs.Common.{◌≡◌, ◌≢◌, ℕ, zero, suc, ◌+◌, ◌-◌, ◌<◌, ◌≤◌, Bool, true, false, not}
-use Rattle.std.proofs.Common.{◌&&◌, ◌||◌, ◌==◌, cond, List, [], ◌∷◌, ◌++◌, length, take, drop}
+use Rattle.std.proofs.Common.{◌≡◌, ◌≢◌, ℕ, zero, suc, ◌+◌, ◌-◌, ◌<◌, ◌≤◌, true, false, not}
+use Rattle.std.proofs.Common.{◌&&◌, ◌==◌, cond, List, [], ◌∷◌, ◌++◌, length, take, drop}
 use Rattle.std.proofs.Common.{Option, Some, None, refl, sym, ap, ◌∙◌, subst, arith, eqb, eqb-true}
 use Rattle.std.proofs.Common.{append_assoc, length-append, ◌⊎◌, inl, inr}
 use Rattle.std.specs.Prelude.{ℤ, IsSome}
@@ -8,7 +8,7 @@ use Rattle.std.specs.List.{list_all, prefix_len}
 use Rattle.std.specs.Char.{is_ascii_digit}
 use Rattle.std.proofs.lemmas.Bool.Decides.{nat_tests}
 use Rattle.gm_base.proofs.Lists.{take_front, drop_front}
-use Rattle.gm_base.proofs.Booleans.{both_of}
+use Rattle.gm_base.proofs.Booleans.{both_of, neither_of}
 use Rattle.gm_geom.specs.Number.{number_of}
 use Rattle.gm_calendar.specs.Spelling.{instant_of, has_date_form, is_instant_byte}
 use Rattle.gm_ecql.specs.declared.token.Symbol.{Symbol}
@@ -164,7 +164,7 @@ numeric_found : (b : ℕ) (bs : List ℕ) → is_number_start b ≡ true
 unfolding token_at
 numeric_found b bs e = rw (start_no_word b e, start_no_double b e, start_no_single b e, e) refl
 
-digit_starts : (b : ℕ) → is_ascii_digit b ≡ true → is_number_start b ≡ true
+pub digit_starts : (b : ℕ) → is_ascii_digit b ≡ true → is_number_start b ≡ true
 digit_starts b e = grind (arith, nat_tests)
 
 -- a date begins with a digit
@@ -214,11 +214,7 @@ number_found (b ∷ bs) rest p =
     (IsUtf8-from_ascii (b ∷ bs) (joined_ascii (b ∷ bs) true (number_joins (b ∷ bs) p.number)))
 
 no_less : (b : ℕ) → is_less_tail b ≡ false → ((b == 62) ≡ false) × ((b == 61) ≡ false)
-no_less b e = neither (b == 62) (b == 61) e
-  where
-    neither : (x y : Bool) → (x || y) ≡ false → (x ≡ false) × (y ≡ false)
-    neither true y e = absurd (cc)
-    neither false y e = (refl, e)
+no_less b e = neither_of (b == 62) (b == 61) e
 
 less_found : (rest : List ℕ) → Stops is_less_tail rest → less_at rest ≡ (symbol.Less, rest)
 less_found [] s = refl

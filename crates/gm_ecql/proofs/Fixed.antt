@@ -23,7 +23,8 @@ use Rattle.gm_feature.specs.Value.{is_below}
 use Rattle.gm_geom.specs.Number.{number_of, if_number, fixed_of, fixed_text, fraction_text}
 use Rattle.gm_geom.specs.Number.{places_of, degree, digits_at, behind_digits, fraction_at}
 use Rattle.gm_geom.specs.Number.{behind_fraction, exponent_of, mantissa_number, unsigned_number}
-use Rattle.gm_ecql.specs.Token.{a_number, is_number_start}
+use Rattle.gm_ecql.specs.Token.{a_number}
+use Rattle.gm_ecql.proofs.Complete.{digit_starts}
 use Rattle.gm_ecql.proofs.PrintedNumbers.{IsSigned, is_no_dash, number_piece}
 use Rattle.gm_ecql.proofs.Scans.{take_run, drop_run}
 use Rattle.gm_ecql.proofs.Sequences.{Printed}
@@ -31,9 +32,6 @@ use Rattle.gm_ecql.proofs.Wholes.{own, same_digits}
 
 decimal_digits : (n : ℕ) → n < 2 ^ 64 → list_all is_ascii_digit (decimal n) ≡ true
 decimal_digits n h = sym (same_digits (decimal n)) ∙ digits_decimal own n h
-
-digit_starts : (b : ℕ) → is_ascii_digit b ≡ true → is_number_start b ≡ true
-digit_starts b e = grind (arith, nat_tests)
 
 digit_no_dash : (b : ℕ) → is_ascii_digit b ≡ true → is_no_dash b ≡ true
 digit_no_dash b e = grind (arith, nat_tests)

@@ -7,6 +7,7 @@ use Rattle.std.proofs.Common.{inl, inr}
 use Rattle.std.specs.List.{list_all, prefix_len}
 use Rattle.std.proofs.lemmas.Bool.Decides.{nat_tests}
 use Rattle.gm_base.proofs.Lists.{take_drop, run_passes}
+use Rattle.gm_base.proofs.Options.{same_pair}
 use Rattle.gm_ecql.specs.Token.{Seen, a_keyword, a_name, a_text, an_instant, a_number, a_symbol}
 use Rattle.gm_ecql.specs.Token.{is_blank, is_word_start, is_word_byte, is_number_start}
 use Rattle.gm_ecql.specs.Token.{is_some_list, Stops, Starts, symbol_text, IsPiece, IsFirst}
@@ -31,14 +32,6 @@ token_blank b bs e =
 pub token_nil : token_at [] ≡ None
 unfolding token_at
 token_nil = refl
-
-same_found : (t u : Seen) (r s : List ℕ) → ◌≡◌ {A = Found} (Some (t, r)) (Some (u, s))
-    → (t ≡ u) × (r ≡ s)
-same_found t u r s h = let e : ◌≡◌ {A = Seen × List ℕ} (t, r) (u, s) = same (t, r) (u, s) h in
-    (ap (λ p. p.0) e, ap (λ p. p.1) e)
-  where
-    same : (x y : Seen × List ℕ) → Some x ≡ Some y → x ≡ y
-    same x y h = cc
 
 pub no_found : {P : Type 0} (o : Found) (t : Seen) (r : List ℕ) → o ≡ None → o ≡ Some (t, r) → P
 no_found o t r e f = absurd (none (sym e ∙ f))
@@ -97,7 +90,7 @@ one_list bytes (t ∷ ts) [] s r =
 one_list bytes (t ∷ ts) (u ∷ us) s r =
     let f = first_found bytes t.0 t.1 s.0 s.1 in
     let g = first_found bytes u.0 u.1 r.0 r.1 in
-    let same = same_found t.1 u.1 s.0 r.0 (sym f.0 ∙ g.0) in
+    let same = same_pair t.1 u.1 s.0 r.0 (sym f.0 ∙ g.0) in
     let behind : ts ≡ us = one_list s.0 ts us s.2 (subst (λ z. Spells z us) (sym same.1) r.2) in
     pair t u ts us (f.1 ∙ sym g.1) same.0 behind
   where
@@ -135,7 +128,7 @@ rest_step rest after spaced t front ts some e told r = with_more r.more r.same r
     with_more [] same s = absurd (some s)
     with_more (u ∷ us) same s =
         let f = first_found rest u.0 u.1 s.0 s.1 in
-        let is = same_found u.1 t s.0 after (sym f.0 ∙ e) in
+        let is = same_pair u.1 t s.0 after (sym f.0 ∙ e) in
         let head : u ≡ (spaced, t) =
         ap (λ z. (z, u.1)) (f.1 ∙ sym told) ∙ ap (λ z. (spaced, z)) is.0 in
         record {

@@ -2,13 +2,14 @@
 use Rattle.std.proofs.Common.{◌≡◌, ℕ, ℤ, ◌<◌, ◌≤◌, Bool, true, false, ◌&&◌, cond, List, [], ◌∷◌}
 use Rattle.std.proofs.Common.{◌++◌, length, map, codes, Option, Some, None, option_map, Ok, refl}
 use Rattle.std.proofs.Common.{sym, ◌∙◌, ap, subst, arith, append_assoc}
-use Rattle.std.specs.Prelude.{nat_le, int_le, is_none}
+use Rattle.std.specs.Prelude.{nat_le, int_le}
 use Rattle.std.specs.List.{list_all}
 use Rattle.std.specs.Str.{is_utf8}
 use Rattle.std.proofs.lemmas.Str.{IsUtf8-from_is_utf8}
 use mir.Syntax.{w32}
 use mir.Val.{SFits}
 use Rattle.gm_base.proofs.Booleans.{both_of}
+use Rattle.gm_base.proofs.Options.{none_is}
 use Rattle.gm_calendar.specs.Instant.{is_instant}
 use Rattle.gm_calendar.specs.Spelling.{instant_text}
 use Rattle.gm_geom.specs.declared.geometry.Geometry.{Geometry}
@@ -368,10 +369,6 @@ module _ (s : Specification) (below : Below) (typed : IsType s) where
             (ap (λ m. Some (option_map (λ b. tree.bbox a b) m)) (box_back x low high)) h;
       }
 
-  no_fault : {X : Type 0} (o : Option X) → is_none o ≡ true → o ≡ None
-  no_fault None h = refl
-  no_fault (Some x) h = absurd (cc)
-
   related_lexed : (r : Relation) (a : ℕ) (k : Kind) (g : Geometry) → Named s a k
       → Prints number g → (b : Bool)
       → Lexed b (related_text (relation_text r) (name_at s a) g)
@@ -407,7 +404,7 @@ module _ (s : Specification) (below : Below) (typed : IsType s) where
       let p = both_of (is_kept g) _ h in
       let k = found _ (kind_at s a) p.1 in
       let n = names.named s a k.0 typed k.1 in
-      let e = no_fault (fault_of g) p.0 in
+      let e = none_is (fault_of g) p.0 in
       let x = prints number g e in record {
         trial = named (name_at s a) (related relation.Intersects (geometry_tokens g));
         lexed = related_lexed relation.Intersects a k.0 g n x;
@@ -422,7 +419,7 @@ module _ (s : Specification) (below : Below) (typed : IsType s) where
       let p = both_of (is_kept g) _ h in
       let k = found _ (kind_at s a) p.1 in
       let n = names.named s a k.0 typed k.1 in
-      let e = no_fault (fault_of g) p.0 in
+      let e = none_is (fault_of g) p.0 in
       let x = prints number g e in record {
         trial = named (name_at s a) (related relation.Disjoint (geometry_tokens g));
         lexed = related_lexed relation.Disjoint a k.0 g n x;
@@ -437,7 +434,7 @@ module _ (s : Specification) (below : Below) (typed : IsType s) where
       let p = both_of (has_area g && is_kept g) _ h in
       let k = found _ (kind_at s a) p.1 in
       let n = names.named s a k.0 typed k.1 in
-      let e = no_fault (fault_of g) (both_of (has_area g) (is_kept g) p.0).1 in
+      let e = none_is (fault_of g) (both_of (has_area g) (is_kept g) p.0).1 in
       let x = prints number g e in record {
         trial = named (name_at s a) (related relation.Within (geometry_tokens g));
         lexed = related_lexed relation.Within a k.0 g n x;

@@ -8,7 +8,7 @@ use Rattle.std.specs.List.{list_all, prefix_len}
 use Rattle.std.proofs.lemmas.Bool.Decides.{nat_tests}
 use Rattle.gm_base.proofs.Lists.{run_passes, take_drop, take_front, drop_front}
 use Rattle.gm_base.proofs.Booleans.{both_of}
-use Rattle.gm_base.proofs.Options.{same_pair}
+use Rattle.gm_base.proofs.Options.{same_some, same_pair}
 use Rattle.gm_geom.specs.Number.{number_of}
 use Rattle.gm_calendar.specs.Spelling.{instant_of, has_date_form, is_instant_byte}
 use Rattle.gm_ecql.specs.declared.token.Symbol.{Symbol}
@@ -214,9 +214,6 @@ record ClosedBehind (at n : ℕ) (bytes : List ℕ) : Type 0 where
   ends : Stops is_single after
   place : at + length (doubled bytes_in) ≡ n
 
-some_number : (a b : ℕ) → ◌≡◌ {A = Option ℕ} (Some a) (Some b) → a ≡ b
-some_number a b e = cc
-
 no_place : {P : Type 0} (n : ℕ) → ◌≡◌ {A = Option ℕ} None (Some n) → P
 no_place n e = absurd (cc)
 
@@ -259,7 +256,7 @@ mutual
         after = [];
         written = refl;
         ends = tt;
-        place = omega (arith, some_number (at + 1 - 1) n h);
+        place = omega (arith, same_some (at + 1 - 1) n h);
       }
   closed_behind (b ∷ bs) at n h = elim (chosen (b == 39) _ _ _ h) [
     | inl p ↦
@@ -276,7 +273,7 @@ mutual
       after = b ∷ bs;
       written = refl;
       ends = p.0;
-      place = omega (arith, some_number (at + 1 - 1) n p.1);
+      place = omega (arith, same_some (at + 1 - 1) n p.1);
     }
   ]
 

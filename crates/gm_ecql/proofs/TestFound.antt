@@ -4,6 +4,7 @@ use Rattle.std.proofs.Common.{[], ◌∷◌, ◌++◌, length, take, drop, Optio
 use Rattle.std.proofs.Common.{refl, sym, ◌∙◌, ap, subst, arith, append_assoc, length-append, ◌⊎◌}
 use Rattle.std.proofs.Common.{inl, inr}
 use Rattle.std.specs.Prelude.{ℤ}
+use Rattle.gm_base.proofs.Options.{same_some}
 use Rattle.gm_filter.specs.declared.filter.Op.{Op}
 use Rattle.gm_filter.specs.declared.filter.Op.TheVariants as op
 use Rattle.gm_ecql.specs.declared.keyword.Keyword.TheVariants as keyword
@@ -71,15 +72,12 @@ group_more depth n (t ∷ ts) more h = elim (chosen (depth_behind depth t == 0) 
     ap (λ x. cond x (Some 1)
         (option_map suc (group_count (depth_behind depth t) (ts ++ more)))) p.0
         ∙ p.1,
-    at_most (some_is 1 n p.1),
+    at_most (same_some {A = ℕ} 1 n p.1),
   )
   | inr p ↦ by_rest (group_count (depth_behind depth t) ts) refl
       (λ m. group_more (depth_behind depth t) m ts more) p.0 p.1
 ]
   where
-    some_is : (a b : ℕ) → ◌≡◌ {A = Option ℕ} (Some a) (Some b) → a ≡ b
-    some_is a b e = cc
-
     at_most : 1 ≡ n → n ≤ suc (length ts)
     at_most e = omega (arith, e)
 
@@ -91,7 +89,7 @@ group_more depth n (t ∷ ts) more h = elim (chosen (depth_behind depth t == 0) 
     by_rest None e again f g = absurd (cc)
     by_rest (Some m) e again f g =
         let r = again m e in
-        let s : suc m ≡ n = some_is (suc m) n g in (
+        let s : suc m ≡ n = same_some (suc m) n g in (
           ap (λ x. cond x (Some 1)
               (option_map suc (group_count (depth_behind depth t) (ts ++ more)))) f
               ∙ ap (option_map suc) r.0 ∙ ap (λ z. Some z) s,
@@ -119,9 +117,6 @@ piece_more (t ∷ ts) piece rest more h = elim (chosen (is_geometry_word t) _ _ 
     none : ◌≡◌ {A = Option (List Seen × List Seen)} None (Some (piece, rest)) → ⊥
     none e = cc
 
-    some_is : (a b : List Seen × List Seen) → Some a ≡ Some b → a ≡ b
-    some_is a b e = cc
-
     by_count : (o : Option ℕ) → group_count 0 ts ≡ o → is_geometry_word t ≡ true
         → cut_behind o t ts ≡ Some (piece, rest)
         → cond (is_geometry_word t) (cut_behind (group_count 0 (ts ++ more)) t (ts ++ more)) None
@@ -130,7 +125,7 @@ piece_more (t ∷ ts) piece rest more h = elim (chosen (is_geometry_word t) _ _ 
     by_count (Some n) e w h =
         let g = group_more 0 n ts more e in
         let s : ◌≡◌ {A = List Seen × List Seen} (t ∷ take n ts, drop n ts) (piece, rest) =
-        some_is _ _ h in
+        same_some {A = List Seen × List Seen} _ _ h in
         ap (λ x. cond x (cut_behind (group_count 0 (ts ++ more)) t (ts ++ more)) None) w
         ∙ ap (λ o. cut_behind o t (ts ++ more)) g.0
         ∙ ap (λ z. Some (t ∷ z, drop n (ts ++ more))) (take_ahead n ts more g.1)

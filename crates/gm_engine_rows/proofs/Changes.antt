@@ -2,7 +2,6 @@
 use Rattle.std.proofs.Common.{◌≡◌, ◌<◌, ℕ, zero, suc, ◌+◌, Bool, true, false, true≢false, cond, not}
 use Rattle.std.proofs.Common.{◌&&◌, ◌||◌, ◌⊎◌, inl, inr, ⊎_elim, List, [], ◌∷◌, ◌++◌, append-nil}
 use Rattle.std.proofs.Common.{map, filter, length, Option, Some, None, refl, sym, ap, subst, ◌∙◌}
-use Rattle.std.proofs.Common.{arith}
 use Rattle.std.specs.Prelude.{slice_get, IsTrue, if◌then◌else◌}
 use Rattle.std.specs.Option.{ForSome}
 use Rattle.std.specs.List.{flat_map, list_any, list_all}
@@ -12,7 +11,7 @@ use Rattle.std.proofs.lemmas.Bool.{cases_eq}
 use Rattle.std.specs.FinMap as features
 use Rattle.std.specs.FinMap.{get-insert, get-remove, get-empty, len-empty, len-entries}
 use Rattle.gm_base.proofs.Options.{same_some, none_some}
-use Rattle.gm_base.proofs.Booleans.{true_or_false}
+use Rattle.gm_base.proofs.Booleans.{true_or_false, and_false, and_true, no_length}
 use Rattle.gm_table.specs.declared.row.Row.{Row}
 use Rattle.gm_table.specs.Batch.{has_key, are_distinct, put_at, applied_at}
 use Rattle.gm_table.specs.Row.{key_of as key_of_row}
@@ -126,7 +125,7 @@ has_key-removes key (k ∷ olds) news =
             | true ↦ λ is. has_key-removes key olds news
                 ∙ ap (λ t. has_key key olds && not t)
                 (ap (λ q. has_key q news) (same_key key k is) ∙ e)
-                ∙ none (has_key key olds)
+                ∙ and_false (has_key key olds)
                 ∙ sym (ap not (ap (λ q. has_key q news) (same_key key k is) ∙ e))
             | false ↦ λ _. has_key-removes key olds news
           ] refl
@@ -138,10 +137,6 @@ has_key-removes key (k ∷ olds) news =
             | false ↦ λ _. has_key-removes key olds news
           ] refl
     ] refl
-  where
-    none : (b : Bool) → (b && false) ≡ false
-    none true = refl
-    none false = refl
 
 put_at-puts : (key : List ℕ) (news : List (List ℕ)) (bytes : List ℕ) (before : Option (List ℕ))
     → put_at key (rows_with news bytes) before ≡ (if has_key key news then Some bytes else before)
@@ -171,10 +166,6 @@ pub made_is : (t : Specification) (old new : Option Feature) (key : List ℕ)
 made_is t old None key before =
     ap (λ b. if b then None else before)
     (has_key-removes key (keys_at t old) [] ∙ and_true (has_key key (keys_at t old)))
-  where
-    and_true : (b : Bool) → (b && true) ≡ b
-    and_true true = refl
-    and_true false = refl
 made_is t old (Some f) key before =
     (λ i. if has_key-removes key (keys_at t old) (keys_of t f) i then None
     else put_at-puts key (keys_of t f) (feature_bytes f) before i)
@@ -372,13 +363,9 @@ past_the_end [] = refl
 past_the_end (c ∷ s) = past_the_end s
 
 no_entries : features.entries (features.empty {X = Feature} {R = slice_cmp nat_cmp}) ≡ []
-no_entries = nil (features.entries features.empty)
+no_entries = no_length (features.entries features.empty)
     (sym (len-entries (features.empty {X = Feature} {R = slice_cmp nat_cmp}))
     ∙ len-empty (slice_cmp nat_cmp) Feature)
-  where
-    nil : {A : Type 0} (xs : List A) → length xs ≡ 0 → xs ≡ []
-    nil [] is = refl
-    nil (x ∷ xs) is = absurd (omega (arith, is))
 
 same_all_rows : (s : State) (t : Specification) → all_rows (with_type t s) ≡ all_rows s
 same_all_rows [] t = ap (λ es. flat_map (λ e. rows_of_feature t e.1) es ++ []) no_entries

@@ -6,6 +6,7 @@ use Rattle.std.specs.Prelude.{All, slice_get, if◌then◌else◌}
 use Rattle.std.specs.Option.{ForSome}
 use Rattle.std.specs.List.{flat_map}
 use Rattle.gm_base.proofs.Booleans.{false_of_never, both_of, false_of_not}
+use Rattle.gm_base.proofs.Options.{same_some}
 use Rattle.gm_table.specs.declared.row.Row.{Row}
 use Rattle.gm_table.specs.Batch.{has_key, are_distinct, put_at, applied_at}
 use Rattle.gm_table.specs.Row.{key_of as key_of_row}
@@ -172,14 +173,11 @@ removes_distinct keys t (e ∷ es) typed are once =
     distinct_append (removes_of t (Some e.old) e.new) (removes_of_all t es)
     (distinct_filter (λ q. not (has_key q (keys_at t e.new))) (keys_of t e.old)
     (some_keys_distinct keys t (Some e.old) typed
-    (λ f same. subst (Fits t) (some_is e.old f same) is.old)))
+    (λ f same. subst (Fits t) (same_some e.old f same) is.old)))
     (removes_distinct keys t es typed later (both_of _ _ once).1)
     (λ k member. none_later keys t e es (λ d. removes_of t (Some d.old) d.new) k typed once
     (owned_removed t e k is member)
     (λ d among. owned_removed t d k (later d among)))
-  where
-    some_is : (a b : Feature) → Some a ≡ Some b → a ≡ b
-    some_is a b same = cc
 
 puts_distinct : Keys → (t : Specification) (es : List Exchange) → IsType t
     → ((e : Exchange) → In e es → IsExchange t e) → are_distinct (owners_of es) ≡ true

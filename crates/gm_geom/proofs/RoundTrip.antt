@@ -184,18 +184,18 @@ magnitude_again negative w r ds value small =
         ap (λ j. nearest (v * 10 ^ j) (10 ^ k)) e ∙ nearest_up v k (7 - k)
 
 -- digits have no sign
+pub digit_is_no_sign : (b n : ℕ) → is_ascii_digit b ≡ true → n < 48 → (b == n) ≡ false
+digit_is_no_sign b n digit small = let low : 48 ≤ b = digit_low b digit in grind (arith, nat_tests)
+
 plain_sign : (ds rest : List ℕ) → AreDigits ds → 0 < length ds
     → (starts_with_minus (ds ++ rest) ≡ false) × (without_leading_sign (ds ++ rest) ≡ ds ++ rest)
 plain_sign [] rest all some = absurd (omega arith)
 plain_sign (d ∷ ds) rest all some =
     let digit : is_ascii_digit d ≡ true =
     (and_parts (is_ascii_digit d) (list_all is_ascii_digit ds) all).0 in
-    let minus : (d == 45) ≡ false = not_digit d 45 digit (lit< tt) in
-    let plus : (d == 43) ≡ false = not_digit d 43 digit (lit< tt) in
+    let minus : (d == 45) ≡ false = digit_is_no_sign d 45 digit (lit< tt) in
+    let plus : (d == 43) ≡ false = digit_is_no_sign d 43 digit (lit< tt) in
     (minus, rw (minus, plus) refl)
-  where
-    not_digit : (d n : ℕ) → is_ascii_digit d ≡ true → n < 48 → (d == n) ≡ false
-    not_digit d n digit small = let low : 48 ≤ d = digit_low d digit in grind (arith, nat_tests)
 
 -- the number of a whole part and a rest
 reads_unsigned : (negative : Bool) (m : ℕ) → m < 2 ^ 32

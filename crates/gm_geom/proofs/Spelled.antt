@@ -8,7 +8,6 @@ use Rattle.std.specs.List.{list_all, prefix_len}
 use Rattle.std.specs.Char.{is_ascii_digit}
 use Rattle.std.specs.Str.Parse.{digits_value, starts_with_minus, without_leading_sign}
 use Rattle.std.proofs.lemmas.Bool.{and_parts, and_from, or_cases, cases_Bool, eqb-true}
-use Rattle.std.proofs.lemmas.Bool.Decides.{nat_tests}
 use Rattle.std.proofs.lemmas.List.{take-append-drop}
 use Rattle.gm_geom.specs.declared.number.Exponent.{Exponent}
 use Rattle.gm_geom.specs.declared.number.Number.{Number}
@@ -20,8 +19,8 @@ use Rattle.gm_geom.specs.Number.{behind_digits, has_point, fraction_at, behind_f
 use Rattle.gm_geom.specs.Number.{is_exponent, marked_exponent, exponent_of, mantissa_number}
 use Rattle.gm_geom.specs.Number.{unsigned_number, number_of, magnitude_of, signed, in_range}
 use Rattle.gm_geom.specs.Number.{rounded, if_number, fixed_of}
-use Rattle.gm_geom.proofs.Numbers.{front_digits, digit_low}
-use Rattle.gm_geom.proofs.RoundTrip.{Stops, digits_front, behind_front}
+use Rattle.gm_geom.proofs.Numbers.{front_digits}
+use Rattle.gm_geom.proofs.RoundTrip.{Stops, digits_front, behind_front, digit_is_no_sign}
 
 -- From the parts to the function.
 
@@ -40,9 +39,6 @@ behind_sign : (negative : Bool) (sign rest : List ℕ) → SpellsSign sign negat
 behind_sign true sign rest e none = rw e (refl, refl)
 behind_sign false sign rest (inl e) none = rw e (plain rest none)
 behind_sign false sign rest (inr e) none = rw e (refl, refl)
-
-digit_is_no_sign : (b n : ℕ) → is_ascii_digit b ≡ true → n < 48 → (b == n) ≡ false
-digit_is_no_sign b n digit small = let low : 48 ≤ b = digit_low b digit in grind (arith, nat_tests)
 
 digits_have_none : (ds rest : List ℕ) → AreDigits ds → 0 < length ds → HasNoSign (ds ++ rest)
 digits_have_none [] rest all some = absurd (omega arith)

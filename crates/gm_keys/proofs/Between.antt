@@ -1,5 +1,5 @@
 -- Which keys lie between two bounds.
-use Rattle.std.proofs.Common.{◌≡◌, ◌<◌, ◌≤◌, ℕ, zero, suc, ◌+◌, ◌^◌, Bool, true, false, true≢false}
+use Rattle.std.proofs.Common.{◌≡◌, ◌<◌, ◌≤◌, ℕ, zero, suc, ◌+◌, ◌^◌, true, false, true≢false}
 use Rattle.std.proofs.Common.{not, ◌&&◌, ◌==◌, nat_eq, nat_le, List, [], ◌∷◌, ◌++◌, append_assoc}
 use Rattle.std.proofs.Common.{append-nil, length, take, All, Some, None, refl, sym, ap, subst, ◌∙◌}
 use Rattle.std.proofs.Common.{⊎_elim, arith, length-append}
@@ -18,6 +18,7 @@ use Rattle.std.specs.declared.cmp.Ordering.{Ordering}
 use Rattle.std.specs.declared.cmp.Ordering.TheVariants.{Less, Equal, Greater}
 use Rattle.byteorder.specs.Endian.{big_bytes}
 use Rattle.byteorder.specs.Numbers.{length-bytes_high_first}
+use Rattle.gm_base.proofs.Booleans.{and_true}
 use Rattle.gm_base.proofs.Numbers.{none_is_least, le_true, le_false, eq_false, is_less, is_greater}
 use Rattle.gm_base.proofs.Numbers.{is_equal}
 use Rattle.gm_lexi.specs.Ends.{raised, after_of, is_before, is_from_to}
@@ -221,10 +222,6 @@ pub in_values : Order → (prefix low high rest : List ℕ)
     ≡ is_from_to low (Some high) rest
 in_values order prefix low high rest =
     λ i. is_le (order.shared prefix low rest i) && not (is_le (order.shared prefix high rest i))
-
-and_true : (b : Bool) → (b && true) ≡ b
-and_true true = refl
-and_true false = refl
 
 pub to_the_end : Order → (t : Specification) (kind : IndexKind) (low rest : List ℕ)
     → is_from_to (prefix_of t kind ++ low) (after_of (prefix_of t kind)) (prefix_of t kind ++ rest)

@@ -6,6 +6,7 @@ use Rattle.std.proofs.lemmas.List.{take_at}
 use Rattle.std.proofs.Math.Seq.{drop-append_seam as drop-append}
 use Rattle.std.proofs.lemmas.Str.{is_utf8-from_IsUtf8, IsUtf8-from_is_utf8}
 use Rattle.std.specs.Str.{is_utf8}
+use Rattle.gm_base.proofs.Booleans.{false_of_never}
 use Rattle.gm_base.proofs.Options.{same_some, none_some}
 use Rattle.gm_base.specs.Identifier.{is_identifier, has_identifier_form}
 use Rattle.gm_types.specs.declared.index.IndexKind.{IndexKind}
@@ -24,11 +25,7 @@ identifier_is bytes r utf8 is =
 pub no_identifier : (bytes : List ℕ) → (IsUtf8 bytes → ⊥) → false ≡ is_identifier bytes
 no_identifier bytes not_utf8 =
     ap (λ t. t && has_identifier_form bytes)
-    (sym (by (is_utf8 bytes) (λ is. not_utf8 (IsUtf8-from_is_utf8 bytes is))))
-  where
-    by : (b : Bool) → (b ≡ true → ⊥) → b ≡ false
-    by true never = absurd (never refl)
-    by false never = refl
+    (sym (false_of_never (is_utf8 bytes) (λ is. not_utf8 (IsUtf8-from_is_utf8 bytes is))))
 
 -- ---- forms
 pub length-int : (z : ℤ) → length (int_bytes z) ≡ 4

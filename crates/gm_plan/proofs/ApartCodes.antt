@@ -1,5 +1,5 @@
 -- The spans of ranges of codes and of bins, in one shard and in two.
-use Rattle.std.proofs.Common.{◌≡◌, ℕ, zero, suc, ◌+◌, ◌^◌, ◌<◌, ◌≤◌, Bool, true, false, not, ◌&&◌}
+use Rattle.std.proofs.Common.{◌≡◌, ℕ, zero, suc, ◌+◌, ◌^◌, ◌<◌, ◌≤◌, Bool, true, false, ◌&&◌}
 use Rattle.std.proofs.Common.{◌==◌, nat_eq, nat_le, List, [], ◌∷◌, ◌++◌, append-nil, append_assoc}
 use Rattle.std.proofs.Common.{map, filter, length, take, All, refl, sym, ap, ◌∙◌, true≢false, ◌⊎◌}
 use Rattle.std.proofs.Common.{inl, inr, Option, Some, None, arith, subst, mod-lt}
@@ -14,6 +14,7 @@ use Rattle.std.specs.declared.cmp.Ordering.{Ordering}
 use Rattle.std.specs.declared.cmp.Ordering.TheVariants.{Less, Equal, Greater}
 use Rattle.std.specs.Cmp.Lexicographic.{slice_cmp}
 use Rattle.byteorder.specs.Endian.{big_bytes}
+use Rattle.gm_base.proofs.Booleans.{true_of_not}
 use Rattle.gm_base.proofs.Lists.{all_append}
 use Rattle.gm_base.proofs.Numbers.{is_greater}
 use Rattle.gm_base.specs.Spans.{Span}
@@ -80,11 +81,7 @@ take_front (f ∷ front) x xs y ys = ap (λ zs. f ∷ zs) (take_front front x xs
 end_by : (o : Option (List ℕ)) (other : List ℕ) → is_before o other ≡ false
     → is_le (C (end_or_none o) other) ≡ true
 end_by None other h = absurd (true≢false h)
-end_by (Some end) other h = unnot (is_le (C end other)) h
-  where
-    unnot : (b : Bool) → not b ≡ false → b ≡ true
-    unnot true e = refl
-    unnot false e = absurd (true≢false e)
+end_by (Some end) other h = true_of_not (is_le (C end other)) h
 
 -- what begins with the one shard ends before the other begins
 pub shards_rise : ByteLaws → (s : Specification) (kind : IndexKind) (a b : ℕ) (x y : List ℕ) → a < b

@@ -16,7 +16,7 @@ use Rattle.std.specs.FinMap.Entries.{below_all, same_entries}
 use Rattle.gm_base.proofs.Options.{same_some}
 use Rattle.gm_base.proofs.Booleans.{true_or_false}
 use Rattle.gm_base.proofs.Lists.{each_as}
-use Rattle.gm_base.proofs.Booleans.{both_from-T}
+use Rattle.gm_base.proofs.Booleans.{both_from-T, both_of-T}
 use Rattle.gm_feature.specs.declared.feature.Feature.{Feature}
 use Rattle.gm_feature.specs.declared.value.Value.{Value}
 use Rattle.gm_filter.specs.Tree.{Tree}
@@ -24,7 +24,7 @@ use Rattle.gm_filter.specs.Truth.{is_true}
 use Rattle.gm_engine_rows.specs.State.{State, Features, features_of, feature_at}
 use Rattle.gm_program.specs.Collecting.{Collected, feature_of, values_if, Collects}
 use Rattle.gm_program.specs.Question.{answer}
-use Rattle.gm_program.proofs.Collected.{is_key, same_key, key_itself, both_true}
+use Rattle.gm_program.proofs.Collected.{is_key, same_key, key_itself}
 use Rattle.gm_program.proofs.Collected.{AreNamed}
 
 abbrev pub Entry : Type 0
@@ -44,7 +44,7 @@ below_passing : (test : Feature → Bool) (key : List ℕ) (es : List Entry)
     → T (below_all (slice_cmp nat_cmp) key (passing test es))
 below_passing test key [] below = tt
 below_passing test key (e ∷ es) below =
-    let h = both_true _ _ below in
+    let h = both_of-T _ _ below in
     let rest = below_passing test key es h.1 in
     elim (test e.1) as
     (λ t. T (below_all (slice_cmp nat_cmp) key
@@ -55,7 +55,7 @@ pub sorted_passing : (test : Feature → Bool) (es : List Entry)
     → T (is_sorted (slice_cmp nat_cmp) es) → T (is_sorted (slice_cmp nat_cmp) (passing test es))
 sorted_passing test [] sorted = tt
 sorted_passing test (e ∷ es) sorted =
-    let h = both_true _ _ sorted in
+    let h = both_of-T _ _ sorted in
     let rest = sorted_passing test es h.1 in
     elim (test e.1) as
     (λ t. T (is_sorted (slice_cmp nat_cmp)
@@ -78,7 +78,7 @@ absent : (key : List ℕ) (es : List Entry) → T (below_all (slice_cmp nat_cmp)
     → find (slice_cmp nat_cmp) key es ≡ None
 absent key [] below = refl
 absent key (e ∷ es) below =
-    let h = both_true _ _ below in
+    let h = both_of-T _ _ below in
     ap (λ t. cond t (Some e.1) (find (slice_cmp nat_cmp) key es)) (less_not_key key e.0 h.0)
     ∙ absent key es h.1
 
@@ -88,7 +88,7 @@ find_passing : (test : Feature → Bool) (key : List ℕ) (es : List Entry)
     ≡ values_where test (find (slice_cmp nat_cmp) key es)
 find_passing test key [] sorted = refl
 find_passing test key (e ∷ es) sorted =
-    let h = both_true (below_all (slice_cmp nat_cmp) e.0 es)
+    let h = both_of-T (below_all (slice_cmp nat_cmp) e.0 es)
     (is_sorted (slice_cmp nat_cmp) es) sorted in
     let rest = find_passing test key es h.1 in
     ⊎_elim
@@ -159,7 +159,7 @@ found_past : {V : Type 0} (e : List ℕ × V) (all es : List (List ℕ × V))
     → AllByRecursion (λ x. find (slice_cmp nat_cmp) x.0 (e ∷ all) ≡ Some x.1) es
 found_past e all [] below each = tt
 found_past e all (x ∷ es) below each =
-    let h = both_true _ _ below in
+    let h = both_of-T _ _ below in
     let apart : is_key x.0 e.0 ≡ false =
     not_same x.0 e.0
     (λ same. below_itself e.0
@@ -173,7 +173,7 @@ pub each_found : {V : Type 0} (es : List (List ℕ × V)) → T (is_sorted (slic
     → AllByRecursion (λ x. find (slice_cmp nat_cmp) x.0 es ≡ Some x.1) es
 each_found [] sorted = tt
 each_found (e ∷ es) sorted =
-    let h = both_true _ _ sorted in (
+    let h = both_of-T _ _ sorted in (
       ap (λ t. cond t (Some e.1) (find (slice_cmp nat_cmp) e.0 es)) (key_itself e.0),
       found_past e es es h.0 (each_found es h.1),
     )

@@ -3,6 +3,7 @@ use Rattle.std.proofs.Common.{◌≡◌, ◌≢◌, ◌⊎◌, ℕ, List, Option
 use Rattle.std.proofs.Common.{◌∙◌, subst}
 use Rattle.std.proofs.lemmas.Option.{none-some}
 use Rattle.std.specs.Prelude.{Result, Ok, Err, ⊤, OnOk, OnErr, IsErrOf, option_map, IsSome}
+use Rattle.gm_base.proofs.Options.{same_some}
 use Rattle.gm_engine_rows.specs.State.{State}
 use Rattle.gm_outside.specs.declared.sink.SinkRefusal.{SinkRefusal}
 use Rattle.gm_outside.specs.declared.sink.SinkRefusal.TheVariants as sink
@@ -22,14 +23,11 @@ use Rattle.gm_program.specs.Words.{Reads}
 use Rattle.gm_program.proofs.Streaming.{part_whole}
 
 -- ---- the options of the words
-same_options : (a b : Options) → Some a ≡ Some b → a ≡ b
-same_options a b is = cc
-
 -- the options that are read are those of the words
 pub asked : (o : Option Options) (known options : Options) (generate : Option Made) → o ≡ Some known
     → known.generate ≡ generate → o ≡ Some options → options.generate ≡ generate
 asked o known options generate read is at =
-    ap (λ x. x.generate) (sym (same_options known options (sym read ∙ at))) ∙ is
+    ap (λ x. x.generate) (sym (same_some known options (sym read ∙ at))) ∙ is
 
 pub none_asked : {P : Type 0} (o : Option Options) (options : Options) → o ≡ None
     → o ≡ Some options → P

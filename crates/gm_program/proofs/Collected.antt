@@ -1,6 +1,6 @@
 -- What is collected of features, by their identifiers.
-use Rattle.std.proofs.Common.{◌≡◌, ℕ, Bool, true, false, true≢false, cond, ◌&&◌, ◌||◌, ◌⊎◌, inl}
-use Rattle.std.proofs.Common.{inr, T, ⊎_elim, List, [], ◌∷◌, ◌++◌, filter, map, Option, Some, None}
+use Rattle.std.proofs.Common.{◌≡◌, ℕ, Bool, true, false, true≢false, cond, ◌||◌, ◌⊎◌, inl}
+use Rattle.std.proofs.Common.{inr, ⊎_elim, List, [], ◌∷◌, ◌++◌, filter, map, Option, Some, None}
 use Rattle.std.proofs.Common.{refl, sym, ap, subst, ◌∙◌}
 use Rattle.std.specs.Prelude.{if◌then◌else◌}
 use Rattle.std.specs.List.{AllByRecursion, list_any}
@@ -35,10 +35,6 @@ same_key a b is = slice_cmp-IsAntisymmetric nat_cmp-IsAntisymmetric a b ((Equal-
 
 pub key_itself : (a : List ℕ) → is_key a a ≡ true
 key_itself a = ap is_eq (tied_itself nat_list_cmp_total a)
-
-pub both_true : (a b : Bool) → T (a && b) → T a × T b
-both_true true b both = (tt, both)
-both_true false b both = absurd both
 
 -- values by identifiers
 abbrev pub Held : Type 0

@@ -11,6 +11,7 @@ use Rattle.std.specs.FinMap as map_of
 use Rattle.std.specs.FinMap.{is_sorted, entries_sorted, get-entries}
 use Rattle.std.specs.FinMap.Entries.{below_all}
 use Rattle.std.proofs.lemmas.List.Elements.{All-from_recursion}
+use Rattle.gm_base.proofs.Booleans.{both_of-T}
 use Rattle.gm_base.proofs.Lists.{each_as}
 use Rattle.gm_base.specs.Counter.{capped_sum}
 use Rattle.gm_base.specs.declared.code.Code.{Code}
@@ -46,7 +47,7 @@ use Rattle.gm_program.specs.Store.{Types, Holds, IsTypeOf}
 use Rattle.gm_program.proofs.Answering.{answer_is, each_found, entries_named, passing}
 use Rattle.gm_program.proofs.Answering.{sorted_passing, features_passing, less_not_key, Entry}
 use Rattle.gm_program.proofs.Changing.{Same, Rising, length-types, none_held}
-use Rattle.gm_program.proofs.Collected.{AreNamed, both_true}
+use Rattle.gm_program.proofs.Collected.{AreNamed}
 use Rattle.gm_program.proofs.Planned.{are_named, step_refused, step_answered, executes_refused}
 use Rattle.gm_program.proofs.Questions.{FindAll, tests_same}
 
@@ -153,7 +154,7 @@ below_apart : (key : List ℕ) (es : Collected) → T (below_all (slice_cmp nat_
     → has_key key (map (λ e. e.0) es) ≡ false
 below_apart key [] below = refl
 below_apart key (e ∷ es) below =
-    let h = both_true _ _ below in
+    let h = both_of-T _ _ below in
     ap (λ b. b || has_key key (map (λ x. x.0) es)) (less_not_key key e.0 h.0)
     ∙ below_apart key es h.1
 
@@ -161,7 +162,7 @@ sorted_apart : (es : Collected) → T (is_sorted (slice_cmp nat_cmp) es)
     → are_distinct (map (λ e. e.0) es) ≡ true
 sorted_apart [] sorted = refl
 sorted_apart (e ∷ es) sorted =
-    let h = both_true _ _ sorted in
+    let h = both_of-T _ _ sorted in
     ap (λ b. not b && are_distinct (map (λ x. x.0) es)) (below_apart e.0 es h.0)
     ∙ sorted_apart es h.1
 

@@ -8,7 +8,7 @@ use Rattle.std.specs.Ordering.{nat_cmp}
 use Rattle.std.specs.Cmp.Lexicographic.{slice_cmp, nat_list_cmp_total}
 use Rattle.std.specs.FinMap.{find, put, is_sorted, entries_sorted}
 use Rattle.std.specs.FinMap.Entries.{below_all, find-put, is_sorted-put, length-put}
-use Rattle.gm_base.proofs.Booleans.{true_or_false}
+use Rattle.gm_base.proofs.Booleans.{true_or_false, both_of-T}
 use Rattle.gm_base.specs.Spans.{Span}
 use Rattle.gm_table.specs.Apart.{times_inside, AreApart}
 use Rattle.gm_table.specs.Sorted.{Rows, is_within, between}
@@ -24,7 +24,7 @@ use Rattle.gm_engine_rows.specs.State.{State, feature_at}
 use Rattle.gm_engine_rows.specs.Rows.{row_map, rows_of}
 use Rattle.gm_program.specs.Collecting.{Collected, collected}
 use Rattle.gm_program.proofs.Answering.{less_not_key}
-use Rattle.gm_program.proofs.Collected.{is_key, same_key, key_itself, both_true}
+use Rattle.gm_program.proofs.Collected.{is_key, same_key, key_itself}
 use Rattle.gm_program.proofs.Collected.{insert_put}
 use Rattle.gm_program.proofs.Inside.{SameBytes, IsRowOfType}
 
@@ -95,7 +95,7 @@ times_none : (key : List ℕ) (rows : Rows) → T (below_all (slice_cmp nat_cmp)
     → times_at key rows ≡ 0
 times_none key [] below = refl
 times_none key (row ∷ rows) below =
-    let h = both_true _ _ below in
+    let h = both_of-T _ _ below in
     subst (λ (b : Bool). cond b 1 0 + times_at key rows ≡ 0) (sym (less_not_key key row.0 h.0))
     (omega (arith, times_none key rows h.1))
 
@@ -103,7 +103,7 @@ times_sorted : (key : List ℕ) (rows : Rows) → T (is_sorted (slice_cmp nat_cm
     → times_at key rows ≤ 1
 times_sorted key [] sorted = omega arith
 times_sorted key (row ∷ rows) sorted =
-    let h = both_true _ _ sorted in
+    let h = both_of-T _ _ sorted in
     ⊎_elim
     (λ same.
     let none : times_at key rows ≡ 0 =

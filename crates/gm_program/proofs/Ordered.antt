@@ -20,7 +20,7 @@ use Rattle.std.proofs.lemmas.List.Sorted.{All-permutation, IsPermutation-map}
 use Rattle.std.proofs.lemmas.List.Sorted.{list_any-IsPermutation}
 use Rattle.std.proofs.lemmas.Map.Keys.{sorted_head, sorted_tail}
 use Rattle.std.proofs.lemmas.Map.Text.{is_eq-slice_cmp}
-use Rattle.gm_base.proofs.Booleans.{true_or_false}
+use Rattle.gm_base.proofs.Booleans.{true_or_false, both_of}
 use Rattle.gm_base.proofs.Booleans.{both_from-T}
 use Rattle.gm_scan.specs.FoundRows.{FoundRow}
 use Rattle.gm_program.specs.InOrder.{put_all, in_order, seen, AreBound}
@@ -50,10 +50,6 @@ ties x y = both_tied _ _ (C x.0.now y.0.now) (C x.1.now y.1.now)
 -- the bytes are those of the identifier
 abbrev Follows : (List ℕ → List ℕ) → FoundRow → Type 0
 Follows of row = row.1 ≡ of row.0
-
-first_of : (a b : Bool) → (a && b) ≡ true → a ≡ true
-first_of true b both = refl
-first_of false b both = both
 
 -- ---- strictly by identifier
 equal_no_less : {A : Type 0} → Equal ≡ Less → A
@@ -148,7 +144,8 @@ twice true c = refl
 twice false c = refl
 
 same_ids : (x y : Lent) → are_same x y ≡ true → x.0.now ≡ y.0.now
-same_ids x y same = (bytes_decides x.0.now y.0.now).0 (first_of _ _ same)
+same_ids x y same = (bytes_decides x.0.now y.0.now).0
+    (both_of (bytes_eq x.0.now y.0.now) (bytes_eq x.1.now y.1.now) same).0
 
 has_dropped : (id : List ℕ) (x : Lent) (rows : List Lent)
     → has id (map seen (dedup_from are_same x rows)) ≡ has id (map seen (x ∷ rows))

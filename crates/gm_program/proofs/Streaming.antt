@@ -6,6 +6,7 @@ use Rattle.std.specs.Prelude.{◌≤◌, nat_lt, if◌then◌else◌, Result, Ok
 use Rattle.std.proofs.lemmas.Bool.{cases_lt}
 use Rattle.std.proofs.lemmas.Bool.Decides.{nat_tests}
 use Rattle.std.proofs.lemmas.List.{append-nil, take_all, length-take-le}
+use Rattle.gm_base.proofs.Options.{same_some}
 use Rattle.gm_base.specs.Counter.{capped_sum}
 use Rattle.gm_base.specs.declared.code.Code.TheVariants.{E01}
 use Rattle.gm_engine_rows.specs.State.{State, types_of}
@@ -280,9 +281,6 @@ lines_of-append xs ys =
     (partial_from-append [] xs ys)
     ∙ append_assoc (complete_from [] xs) (complete_from (partial_from [] xs) ys)
     (last_line (partial_from (partial_from [] xs) ys))
-
-pub same_some : (a b : List ℕ) → Some a ≡ Some b → a ≡ b
-same_some a b is = cc
 
 -- what broke off is a part of the output
 pub stopped_from_breaks : (p : Setting) (s : State) (e : Stop) (l0 l1 : Option (List ℕ))

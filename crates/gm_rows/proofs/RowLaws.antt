@@ -1,5 +1,5 @@
 -- A printed row is read as its feature.
-use Rattle.std.specs.Prelude.{int_le, neg_ℤ, ◌≤ℤ◌, ◌^◌, ◌≤◌, map, ◌&&◌, nat_le, Ok, Err, is_none}
+use Rattle.std.specs.Prelude.{int_le, neg_ℤ, ◌^◌, ◌≤◌, map, ◌&&◌, nat_le, Ok, Err, is_none}
 use Rattle.std.specs.Prelude.{take, if◌then◌else◌}
 use Rattle.std.proofs.Common.{◌≡◌, ◌≢◌, ◌==◌, ◌<◌, ◌∷◌, ◌∙◌, [], ℕ, ℤ, pos, negsuc, List, Bool}
 use Rattle.std.proofs.Common.{Option, Some, None, length, refl, sym, ap, true, false, inl, inr}
@@ -7,9 +7,9 @@ use Rattle.std.proofs.Common.{arith}
 use Rattle.std.specs.List.{list_all, list_any}
 use Rattle.std.specs.Fmt.{signed_decimal}
 use Rattle.std.specs.Str.{is_utf8}
-use Rattle.std.proofs.lemmas.Int.{ints}
 use Rattle.std.proofs.lemmas.Bool.{cases_Bool, eqb-true, and_parts, eq-eqb, leb-true, false≢true}
 use Rattle.std.proofs.lemmas.Bool.{or_from}
+use Rattle.gm_base.proofs.Numbers.{le_from}
 use Rattle.gm_base.specs.Identifier.{is_identifier, has_identifier_form, is_printable}
 use Rattle.gm_calendar.specs.Instant.{IsInstant, is_instant, ms_before_1970, last_instant}
 use Rattle.gm_calendar.specs.Spelling.{instant_text, instant_of, is_instant_byte, has_date_form}
@@ -79,10 +79,7 @@ is_the_instant : (at : ℤ) → is_instant at ≡ true → IsInstant at
 is_the_instant at h =
     let tests = and_parts (int_le (neg_ℤ (pos ms_before_1970)) at)
     (int_le at (pos last_instant)) h in
-    (at_most (neg_ℤ (pos ms_before_1970)) at tests.0, at_most at (pos last_instant) tests.1)
-  where
-    at_most : (a b : ℤ) → int_le a b ≡ true → a ≤ℤ b
-    at_most a b e = grind (arith, ints)
+    (le_from (neg_ℤ (pos ms_before_1970)) at tests.0, le_from at (pos last_instant) tests.1)
 
 no_fault : (g : Geometry) → is_none (fault_of g) ≡ true → fault_of g ≡ None
 no_fault g h = go (fault_of g) refl h

@@ -1,7 +1,8 @@
 -- The nodes of cells and of objects are those of their codes.
 use Rattle.std.proofs.Common.{◌≡◌, inl, inr, ⊎_elim, ℕ, List, length, sym, subst, arith}
-use Rattle.std.specs.Prelude.{true, Some}
+use Rattle.std.specs.Prelude.{true}
 use Rattle.std.proofs.lemmas.Bool.{cases_lt}
+use Rattle.gm_base.proofs.Options.{same_some}
 use Rattle.gm_curve.specs.Curve.{z_code}
 use Rattle.gm_curve.specs.Xz.{xz_code}
 use Rattle.gm_trees.specs.declared.window.Window.{Window}
@@ -30,14 +31,11 @@ cell_meets D B ws at path is meet =
     subst (λ a. meets D ws (both a ((z_shape D B).reach (walk (z_shape D B) z_root path)).1) ≡ true)
     (sym is.low) (subst (λ b. meets D ws (both (cell_of at) b) ≡ true) (sym is.high) meet)
 
-same_code : (a b : ℕ) → Some a ≡ Some b → a ≡ b
-same_code a b e = cc
-
 pub object_is_node : (D G : ℕ) (low high path : List ℕ) → IsObjectPath D G low high path
     → IsNodeOfCode D (xz_shape D G) (xz_code D G low high) path
 object_is_node D G low high path is =
     let e : (walk (xz_shape D G) z_root path).first ≡ xz_code D G low high =
-    same_code _ _ is.code in
+    same_some _ _ is.code in
     record {
       members = is.members;
       stands = ⊎_elim (λ less. inr (less, is.code))

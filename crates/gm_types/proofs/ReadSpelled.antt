@@ -63,9 +63,6 @@ join_at : (mark : ℕ) (parts : List (List ℕ)) → (parts ≡ [] → ⊥)
 join_at mark [] some = absurd (some refl)
 join_at mark (p ∷ ps) some = refl
 
-both_true : (a b : Bool) → (a && b) ≡ true → b ≡ true
-both_true a b e = (and_parts a b e).1
-
 joined_again : (mark : ℕ) (open_quote : Bool) (text : List ℕ)
     → join_with_byte mark (parts_from mark open_quote text) ≡ text
 unfolding parts_from
@@ -83,7 +80,7 @@ joined_again mark open_quote (b ∷ text) =
     go true e here there =
         join_at mark (parts_from mark false text) (some_parts mark false text)
         ∙ ap (λ c. c ∷ join_with_byte mark (parts_from mark false text))
-        (sym (eqb-true b mark (both_true (not open_quote) (b == mark) e)))
+        (sym (eqb-true b mark (and_parts (not open_quote) (b == mark) e).1))
         ∙ ap (λ t. b ∷ t) here
     go false e here there =
         join_onto mark b (parts_from mark (turned open_quote b) text)

@@ -1,6 +1,7 @@
 -- Members of a list: from the front of a text to its closing bracket.
 use Rattle.std.proofs.Common.{◌≡◌, ℕ, Bool, true, false, ◌==◌, cond, List, [], ◌∷◌, ◌++◌, Some}
 use Rattle.std.proofs.Common.{None, refl, sym, ap, ◌∙◌, append_assoc, append-nil, eqb-true}
+use Rattle.gm_base.proofs.Options.{same_some}
 use Rattle.gm_geom.specs.Number.{is_number_byte}
 use Rattle.gm_wkt.specs.Grammar.{SpellsMember, SpellsMembers, SpellsList}
 use Rattle.gm_wkt.specs.Reader.{skip_blanks, separator, separator_first, separator_at, Starts}
@@ -116,9 +117,6 @@ separator_is : (more : Bool) (rest : List ℕ)
 separator_is true rest = refl
 separator_is false rest = refl
 
-the_some : (a c : Bool × List ℕ) → Some a ≡ Some c → a ≡ c
-the_some a c e = cc
-
 separator_was : (bytes : List ℕ) (r : Bool × List ℕ) → separator_first bytes ≡ Some r
     → bytes ≡ separator r.0 ∷ r.1
 separator_was [] r e = absurd (cc)
@@ -128,7 +126,8 @@ separator_was (b ∷ bytes) r e = by_comma (b == 44) refl e
         → b ∷ bytes ≡ separator r.0 ∷ r.1
     by_bracket true is e =
         ap (λ n. n ∷ bytes) (eqb-true b 41 is)
-        ∙ ap (λ (q : Bool × List ℕ). separator q.0 ∷ q.1) (the_some (false, bytes) r e)
+        ∙ ap (λ (q : Bool × List ℕ). separator q.0 ∷ q.1)
+        (same_some {A = Bool × List ℕ} (false, bytes) r e)
     by_bracket false is e = absurd (cc)
 
     by_comma : (t : Bool) → (b == 44) ≡ t
@@ -136,7 +135,8 @@ separator_was (b ∷ bytes) r e = by_comma (b == 44) refl e
         → b ∷ bytes ≡ separator r.0 ∷ r.1
     by_comma true is e =
         ap (λ n. n ∷ bytes) (eqb-true b 44 is)
-        ∙ ap (λ (q : Bool × List ℕ). separator q.0 ∷ q.1) (the_some (true, bytes) r e)
+        ∙ ap (λ (q : Bool × List ℕ). separator q.0 ∷ q.1)
+        (same_some {A = Bool × List ℕ} (true, bytes) r e)
     by_comma false is e = by_bracket (b == 41) refl e
 
 pub member_found : {A : Type 0} (Item : List ℕ → A → Type 0) (text after : List ℕ) (x : A)

@@ -1,6 +1,7 @@
 use Rattle.std.proofs.Common.{◌≡◌, [], length, ap, sym, ◌∙◌, inl, inr, ⊎_elim, arith, refl, subst}
 use Rattle.std.proofs.Common.{length-append, Some, None}
 use Rattle.std.proofs.lemmas.Result.{IfErr-at_err}
+use Rattle.gm_base.proofs.Options.{same_some}
 use Rattle.gm_program.specs.Machine.{output}
 use Rattle.gm_program.specs.Script.{CanBeRead, setting_of}
 use Rattle.gm_program.specs.Serve.{WritesPart}
@@ -8,7 +9,7 @@ use Rattle.gm_program.specs.Words.{options_of}
 use Rattle.gm_program.proofs.Asked.{asked, none_asked, usage_asked, source_asked, from_mapped}
 use Rattle.gm_program.proofs.Asked.{on_made_done, on_made_write, either_made, made_ends}
 use Rattle.gm_program.proofs.Asked.{made_done_or_no_memory, part_of_loaded}
-use Rattle.gm_program.proofs.Streaming.{same_some, part_of_finished, part_none, part_same}
+use Rattle.gm_program.proofs.Streaming.{part_of_finished, part_none, part_same}
 use Rattle.gm_program.proofs.Streaming.{count_at_limit, count_below_limit, count_most, taken_most}
 use Rattle.gm_program.proofs.Causes.{on_done, on_read, on_write, either_way, other_status}
 use Rattle.gm_program.proofs.Causes.{limit_or_not, done_or_no_memory}
