@@ -3,6 +3,7 @@ use Rattle.std.proofs.Common.{◌≡◌, ℕ, zero, suc, Bool, true, false, ◌=
 use Rattle.std.proofs.Common.{length, Option, Some, None, option_map, refl, sym, ◌∙◌, ap, subst}
 use Rattle.std.proofs.Common.{append_assoc, append-nil, ◌⊎◌, inl, inr}
 use Rattle.std.specs.List.{list_all}
+use Rattle.gm_base.proofs.Options.{same_some}
 use Rattle.gm_base.proofs.Booleans.{both_of}
 use Rattle.gm_base.proofs.Options.{no_some}
 use Rattle.gm_base.proofs.Booleans.{not_both}
@@ -25,7 +26,7 @@ use Rattle.gm_ecql.specs.Words.{begins_geometry}
 use Rattle.gm_ecql.proofs.Places.{same_keyword}
 use Rattle.gm_ecql.proofs.Readers.{keyword_first, keyword_found, name_first}
 use Rattle.gm_ecql.proofs.Sound.{chosen}
-use Rattle.gm_ecql.proofs.TestFirst.{some_is, bound, mapped, chose, constant_first}
+use Rattle.gm_ecql.proofs.TestFirst.{bound, mapped, chose, constant_first}
 use Rattle.gm_ecql.proofs.TestFound.{constant_found, piece_more}
 use Rattle.gm_ecql.proofs.TestSound.{piece_there}
 use Rattle.gm_ecql.proofs.GrammarFound.{document_complete}
@@ -38,10 +39,10 @@ record NewThere (ts : List Seen) (n : New) (rest : List Seen) : Type 0 where
 
 new_there : (ts : List Seen) (r : New × List Seen) → new_at ts ≡ Some r → NewThere ts r.0 r.1
 new_there ts r h = elim (chose (constant_at ts) _ _ _ h) [
-  | inl c ↦ subst (λ p. NewThere ts p.0 p.1) (some_is (new_literal c.0.0, c.0.1) r c.2)
+  | inl c ↦ subst (λ p. NewThere ts p.0 p.1) (same_some (new_literal c.0.0, c.0.1) r c.2)
       (record { formed = tt; written = constant_first ts c.0 c.1 })
   | inr c ↦ elim (chose (after_keyword keyword.Null ts) _ _ _ c.1) [
-    | inl c ↦ subst (λ p. NewThere ts p.0 p.1) (some_is (new_null, c.0) r c.2)
+    | inl c ↦ subst (λ p. NewThere ts p.0 p.1) (same_some (new_null, c.0) r c.2)
         (record { formed = tt; written = keyword_first keyword.Null ts c.0 c.1 })
     | inr c ↦
         let m = mapped (piece_at ts) (λ r. (new_geometry r.0, r.1)) r c.1 in
@@ -112,7 +113,7 @@ change_sound s ts c h =
     let x = bound (name_at ts) _ f.0 f.1 in
     let y = bound (new_at x.0.1) _ f.0 x.2 in
     let z = bound (after_keyword keyword.Where y.0.1) _ f.0 y.2 in
-    let same : (x.0.0, (y.0.0, z.0)) ≡ f.0 = some_is (x.0.0, (y.0.0, z.0)) f.0 z.2 in
+    let same : (x.0.0, (y.0.0, z.0)) ≡ f.0 = same_some (x.0.0, (y.0.0, z.0)) f.0 z.2 in
     let n = new_there x.0.1 y.0 y.1 in
     let front : ts ≡ a_name x.0.0 ∷ (new_tokens y.0.0 ++ a_keyword keyword.Where ∷ z.0) =
     name_first ts x.0.1 x.0.0 x.1 ∙ ap (λ r. a_name x.0.0 ∷ r) n.written
@@ -129,7 +130,7 @@ change_sound s ts c h =
           (λ p. ts ≡ a_name p.0 ∷ (new_tokens p.1.0 ++ a_keyword keyword.Where ∷ p.1.1)) same front;
       assigns = a.1;
       filters = document_sound s f.0.1.1 j.0 j.1;
-      means = sym (some_is (change_judged a.0 j.0) c j.2);
+      means = sym (same_some (change_judged a.0 j.0) c j.2);
     }
 
 pub change_complete : (s : Specification) (ts : List Seen) (c : JudgedChange)

@@ -2,6 +2,7 @@
 use Rattle.std.proofs.Common.{◌≡◌, ℕ, zero, suc, ◌+◌, ◌≤◌, List, [], ◌∷◌, ◌++◌, length, Option}
 use Rattle.std.proofs.Common.{Some, None, option_map, subst, refl, sym, ◌∙◌, ap, arith}
 use Rattle.std.proofs.Common.{append_assoc, length-append, append-nil}
+use Rattle.gm_base.proofs.Options.{same_some}
 use Rattle.gm_base.proofs.Options.{no_some}
 use Rattle.gm_types.specs.Specification.{Specification}
 use Rattle.gm_filter.specs.Tree.{Tree, Trees, all, any}
@@ -22,7 +23,7 @@ use Rattle.gm_ecql.specs.Reader.{Reader, ◌>>=◌, or_else, after_keyword, afte
 use Rattle.gm_ecql.specs.Test.{Trial, include, exclude, ids, named, in_box, related, compared}
 use Rattle.gm_ecql.specs.Test.{between, like, one_of, null, during, timed}
 use Rattle.gm_ecql.specs.Token.{Seen, a_keyword, a_symbol}
-use Rattle.gm_ecql.proofs.TestFirst.{some_is, mapped}
+use Rattle.gm_ecql.proofs.TestFirst.{mapped}
 use Rattle.gm_ecql.proofs.TestFound.{test_found}
 
 -- both parts of what is joined are there
@@ -30,7 +31,7 @@ pub with_is : (a : Option Judged) (b : Option Members) (ms : Members) → with_m
     → (j : Judged) × (us : Members) × (a ≡ Some j) × (b ≡ Some us) × (add_member j us ≡ ms)
 with_is None b ms h = no_some ms h
 with_is (Some j) None ms h = no_some ms h
-with_is (Some j) (Some us) ms h = (j, us, refl, refl, some_is (add_member j us) ms h)
+with_is (Some j) (Some us) ms h = (j, us, refl, refl, same_some (add_member j us) ms h)
 
 no_not : (t : Trial) (rest : List Seen) → after_keyword keyword.Not (test_tokens t ++ rest) ≡ None
 no_not include rest = refl
@@ -215,7 +216,7 @@ mutual
       → more keyword.And (factor_at s n) k (factors_tokens fs ++ rest) ≡ Some (ms, rest)
   complete_factors s no_factors rest n k ms last p h fits turns =
       more_end keyword.And (factor_at s n) k rest last
-      ∙ ap (λ z. Some (z, rest)) (some_is no_members ms h)
+      ∙ ap (λ z. Some (z, rest)) (same_some no_members ms h)
   complete_factors s (and_factor f fs) rest n zero ms last p h fits turns = absurd (omega arith)
   complete_factors s (and_factor f fs) rest n (suc k) ms last p h fits turns =
       let x : List Seen = factors_tokens fs ++ rest in
@@ -240,7 +241,7 @@ mutual
       → more keyword.Or (term_with (factor_at s n) n) k (terms_tokens ts ++ rest) ≡ Some (ms, rest)
   complete_terms s no_terms rest n k ms last end p h fits turns =
       more_end keyword.Or (term_with (factor_at s n) n) k rest end
-      ∙ ap (λ z. Some (z, rest)) (some_is no_members ms h)
+      ∙ ap (λ z. Some (z, rest)) (same_some no_members ms h)
   complete_terms s (or_term f fs ts) rest n zero ms last end p h fits turns = absurd (omega arith)
   complete_terms s (or_term f fs ts) rest n (suc k) ms last end p h fits turns =
       let y : List Seen = terms_tokens ts ++ rest in

@@ -2,6 +2,7 @@
 use Rattle.std.proofs.Common.{◌≡◌, ℕ, zero, suc, List, [], ◌∷◌, ◌++◌, length, Option, Some, None}
 use Rattle.std.proofs.Common.{option_map, refl, sym, ◌∙◌, ap, subst, append_assoc, append-nil, ◌⊎◌}
 use Rattle.std.proofs.Common.{inl, inr}
+use Rattle.gm_base.proofs.Options.{same_some}
 use Rattle.gm_base.proofs.Options.{no_some}
 use Rattle.gm_types.specs.Specification.{Specification}
 use Rattle.gm_filter.specs.Tree.{Tree, Trees, all, any}
@@ -20,7 +21,7 @@ use Rattle.gm_ecql.specs.Parser.{closed, factor_step, factor_at, if_last, docume
 use Rattle.gm_ecql.specs.Reader.{Reader, ◌>>=◌, or_else, after_keyword, after_symbol, test_at}
 use Rattle.gm_ecql.specs.Token.{Seen, a_keyword, a_symbol}
 use Rattle.gm_ecql.proofs.Readers.{keyword_first, symbol_first}
-use Rattle.gm_ecql.proofs.TestFirst.{some_is, bound, mapped, chose}
+use Rattle.gm_ecql.proofs.TestFirst.{bound, mapped, chose}
 use Rattle.gm_ecql.proofs.TestSound.{TestThere, test_there}
 
 module _ (s : Specification) where
@@ -103,7 +104,7 @@ module _ (s : Specification) where
                   one.0.0 two.0.0
                   f.means fs.means;
             })
-        | inr c ↦ subst (λ p. FactorsThere ts p.0 p.1) (some_is (no_members, ts) r c.1)
+        | inr c ↦ subst (λ p. FactorsThere ts p.0 p.1) (same_some (no_members, ts) r c.1)
             (record { factors = no_factors; formed = tt; written = refl; means = refl })
       ]
 
@@ -113,7 +114,7 @@ module _ (s : Specification) where
   unfolding more
   factors_more item sound zero ts r h = elim (chose (after_keyword keyword.And ts) _ _ _ h) [
     | inl c ↦ no_some r c.2
-    | inr c ↦ subst (λ p. FactorsThere ts p.0 p.1) (some_is (no_members, ts) r c.1)
+    | inr c ↦ subst (λ p. FactorsThere ts p.0 p.1) (same_some (no_members, ts) r c.1)
         (record { factors = no_factors; formed = tt; written = refl; means = refl })
   ]
   factors_more item sound (suc n) ts r h =
@@ -162,7 +163,7 @@ module _ (s : Specification) where
           means = member_of (term_judged f.first f.factors) (terms_judged s fs.terms) one.0.0
               two.0.0 f.means fs.means;
         })
-    | inr c ↦ subst (λ p. TermsThere ts p.0 p.1) (some_is (no_members, ts) r c.1)
+    | inr c ↦ subst (λ p. TermsThere ts p.0 p.1) (same_some (no_members, ts) r c.1)
         (record { terms = no_terms; formed = tt; written = refl; means = refl })
   ]
     where
@@ -175,7 +176,7 @@ module _ (s : Specification) where
   unfolding more
   terms_more item sound zero ts r h = elim (chose (after_keyword keyword.Or ts) _ _ _ h) [
     | inl c ↦ no_some r c.2
-    | inr c ↦ subst (λ p. TermsThere ts p.0 p.1) (some_is (no_members, ts) r c.1)
+    | inr c ↦ subst (λ p. TermsThere ts p.0 p.1) (same_some (no_members, ts) r c.1)
         (record { terms = no_terms; formed = tt; written = refl; means = refl })
   ]
   terms_more item sound (suc n) ts r h =
@@ -264,7 +265,7 @@ module _ (s : Specification) where
   factor_read (suc n) ts r h = step_read (factor_at s n) (factor_read n) n ts r h
 
   is_last : (j k : Judged) (ts : List Seen) → if_last j ts ≡ Some k → (j ≡ k) × (ts ≡ [])
-  is_last j k [] h = (some_is j k h, refl)
+  is_last j k [] h = (same_some j k h, refl)
   is_last j k (x ∷ ts) h = no_some k h
 
   -- what is read is spelled so

@@ -1,5 +1,6 @@
 -- A text spells at most one filter, and one change.
 use Rattle.std.proofs.Common.{◌≡◌, ℕ, List, Some, sym, ◌∙◌, ap, subst}
+use Rattle.gm_base.proofs.Options.{same_some}
 use Rattle.gm_types.specs.Specification.{Specification}
 use Rattle.gm_feature.specs.declared.value.Value.{Value}
 use Rattle.gm_filter.specs.Suitability.{Suits}
@@ -11,7 +12,6 @@ use Rattle.gm_ecql.specs.Token.{unspaced}
 use Rattle.gm_ecql.proofs.Documents.{document_complete, change_complete, document_suits}
 use Rattle.gm_ecql.proofs.Documents.{spelled_utf8}
 use Rattle.gm_ecql.proofs.Lists.{one_list}
-use Rattle.gm_ecql.proofs.TestFirst.{some_is}
 
 pub one_tree : (s : Specification) (text : List ℕ) (t u : Tree) → SpellsFilter s text t
     → SpellsFilter s text u → t ≡ u
@@ -20,7 +20,7 @@ one_tree s text t u a b =
     let d = document_complete s (unspaced a.tokens) a.judged a.parsed.spelled in
     let f = document_complete s (unspaced b.tokens) b.judged b.parsed.spelled in
     let same : a.judged ≡ b.judged =
-    some_is a.judged b.judged (sym d ∙ ap (λ z. document s (unspaced z)) e ∙ f) in
+    same_some a.judged b.judged (sym d ∙ ap (λ z. document s (unspaced z)) e ∙ f) in
     a.means ∙ ap (λ j. j.meaning) same ∙ sym b.means
 
 pub spelled_tree_suits : (s : Specification) (text : List ℕ) (t : Tree)
@@ -36,4 +36,4 @@ one_change s text a b v w t u x y =
     let e : x.tokens ≡ y.tokens = one_list text x.tokens y.tokens x.lexed.spelled y.lexed.spelled in
     let d = change_complete s (unspaced x.tokens) x.judged x.parsed.spelled in
     let f = change_complete s (unspaced y.tokens) y.judged y.parsed.spelled in
-    some_is x.judged y.judged (sym d ∙ ap (λ z. change_document s (unspaced z)) e ∙ f)
+    same_some x.judged y.judged (sym d ∙ ap (λ z. change_document s (unspaced z)) e ∙ f)

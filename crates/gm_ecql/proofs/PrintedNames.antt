@@ -10,6 +10,7 @@ use Rattle.std.proofs.lemmas.Bool.{lt-ltb, or_parts}
 use Rattle.std.proofs.lemmas.Bool.Decides.{nat_tests}
 use Rattle.std.proofs.lemmas.Option.{slice_get-map, slice_get_within}
 use Rattle.std.proofs.lemmas.Str.{IsUtf8-from_ascii}
+use Rattle.gm_base.proofs.Options.{same_some}
 use Rattle.gm_base.proofs.Booleans.{both_of}
 use Rattle.gm_base.proofs.Options.{no_some}
 use Rattle.gm_base.proofs.Booleans.{false_of_not}
@@ -24,7 +25,7 @@ use Rattle.gm_ecql.specs.Printer.{name_at, name_if, name_text}
 use Rattle.gm_ecql.specs.Token.{a_name, is_word_byte}
 use Rattle.gm_ecql.proofs.PrintedWords.{name_bytes, name_piece}
 use Rattle.gm_ecql.proofs.Sequences.{Printed}
-use Rattle.gm_ecql.proofs.TestFirst.{some_is, mapped}
+use Rattle.gm_ecql.proofs.TestFirst.{mapped}
 
 same_self : (x : List ℕ) → same_text x x ≡ true
 same_self [] = refl
@@ -36,7 +37,7 @@ other_name : (x : List ℕ) (attributes : List Attribute) (place : ℕ) (a : Att
     → slice_get attributes place ≡ Some a → same_text x a.name ≡ false
 other_name x [] place a none is = no_some a is
 other_name x (b ∷ bs) zero a none is =
-    subst (λ (c : Attribute). same_text x c.name ≡ false) (some_is b a is)
+    subst (λ (c : Attribute). same_text x c.name ≡ false) (same_some b a is)
     (or_parts (same_text x b.name)
     (list_any (same_text x) (map (λ attribute. attribute.name) bs)) none).0
 other_name x (b ∷ bs) (suc place) a none is =
@@ -53,7 +54,8 @@ unfolding are_distinct
 first_place [] place a apart is = no_some a is
 first_place (b ∷ bs) zero a apart is =
     ap (λ x. cond (not x) (1 + prefix_len (λ (c : Attribute). not (same_text c.name a.name)) bs) 0)
-    (subst (λ (c : Attribute). same_text b.name c.name ≡ true) (some_is b a is) (same_self b.name))
+    (subst (λ (c : Attribute). same_text b.name c.name ≡ true) (same_some b a is)
+    (same_self b.name))
 first_place (b ∷ bs) (suc place) a apart is =
     let p = both_of (not (list_any (same_text b.name) (map (λ attribute. attribute.name) bs)))
     (are_distinct (map (λ attribute. attribute.name) bs)) apart in
@@ -78,7 +80,7 @@ attribute_passes : (attributes : List Attribute) (place : ℕ) (a : Attribute)
     → is_attribute a ≡ true
 attribute_passes [] place a all is = no_some a is
 attribute_passes (b ∷ bs) zero a all is =
-    subst (λ (c : Attribute). is_attribute c ≡ true) (some_is b a is)
+    subst (λ (c : Attribute). is_attribute c ≡ true) (same_some b a is)
     (both_of (is_attribute b) (list_all is_attribute bs) all).0
 attribute_passes (b ∷ bs) (suc place) a all is =
     attribute_passes bs place a (both_of (is_attribute b) (list_all is_attribute bs) all).1 is

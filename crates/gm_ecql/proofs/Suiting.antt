@@ -7,6 +7,7 @@ use Rattle.std.specs.List.{list_all}
 use Rattle.std.specs.Str.{is_utf8}
 use Rattle.std.proofs.lemmas.Bool.{le-leb}
 use Rattle.std.proofs.lemmas.List.Folds.{list_all-append}
+use Rattle.gm_base.proofs.Options.{same_some}
 use Rattle.gm_base.proofs.Booleans.{both_of}
 use Rattle.gm_base.proofs.Options.{no_some}
 use Rattle.gm_types.specs.Specification.{Specification, place_of_name, kind_at}
@@ -24,7 +25,7 @@ use Rattle.gm_ecql.specs.Judging.{judged_at, judged_named, judged, candidate, is
 use Rattle.gm_ecql.specs.Judging.{is_spelled, sound, unknown, bad}
 use Rattle.gm_ecql.specs.Test.{Trial, include, exclude, ids, named, Question}
 use Rattle.gm_ecql.specs.Token.{Seen, a_keyword, a_name, a_text, an_instant, a_number, a_symbol}
-use Rattle.gm_ecql.proofs.TestFirst.{some_is, mapped}
+use Rattle.gm_ecql.proofs.TestFirst.{mapped}
 use Rattle.gm_ecql.proofs.GrammarFound.{with_is}
 
 abbrev pub has_utf8 : Seen → Bool
@@ -87,7 +88,8 @@ module _ (s : Specification) where
     where
       by_spelled : (x : Bool) → cond x (Some (unknown name)) None ≡ Some j → Suits s j.meaning
       by_spelled true g =
-          some_name name (ap (λ f. f.unknown) (ap (λ j. j.faults) (some_is (unknown name) j g) ∙ e))
+          some_name name
+          (ap (λ f. f.unknown) (ap (λ j. j.faults) (same_some (unknown name) j g) ∙ e))
       by_spelled false g = no_some j g
   named_suits name q (Some a) j h e =
       let m = mapped (candidate a (is_date_kind (kind_at s a)) q) (kept s name) j h in
@@ -100,12 +102,12 @@ module _ (s : Specification) where
       → judged s t ≡ Some j → j.faults ≡ faultless → Suits s j.meaning
   unfolding judged
   test_suits include j p u h e =
-      subst (λ k. Suits s k.meaning) (some_is (sound tree.include) j h) refl
+      subst (λ k. Suits s k.meaning) (same_some (sound tree.include) j h) refl
   test_suits exclude j p u h e =
-      subst (λ k. Suits s k.meaning) (some_is (sound tree.exclude) j h) refl
+      subst (λ k. Suits s k.meaning) (same_some (sound tree.exclude) j h) refl
   test_suits (ids texts) j p u h e =
       let inside = joined_utf8 (by_commas a_text texts) (closing ∷ []) u in
-      subst (λ k. Suits s k.meaning) (some_is (sound (tree.ids texts)) j h)
+      subst (λ k. Suits s k.meaning) (same_some (sound (tree.ids texts)) j h)
       (ap (λ x. x && list_all is_utf8 texts) (some_texts texts p) ∙ texts_utf8 texts inside.0)
   test_suits (named name q) j p u h e = named_suits name q (place_of_name s name) j h e
 
@@ -181,7 +183,7 @@ module _ (s : Specification) where
 
   none_suit : AllSuitAt (Some no_members)
   unfolding AllSuitAt AllSuit
-  none_suit = λ ms h e. subst (λ m. AllSuit m.members) (some_is no_members ms h) tt
+  none_suit = λ ms h e. subst (λ m. AllSuit m.members) (same_some no_members ms h) tt
 
   not_suits : (o : Option Judged) → SuitsAt o → SuitsAt (option_map negated_of o)
   unfolding SuitsAt

@@ -4,6 +4,7 @@ use Rattle.std.proofs.Common.{[], ◌∷◌, ◌++◌, length, take, drop, Optio
 use Rattle.std.proofs.Common.{refl, sym, ◌∙◌, ap, subst, arith, append_assoc, length-append, ◌⊎◌}
 use Rattle.std.proofs.Common.{inl, inr}
 use Rattle.std.specs.Prelude.{ℤ}
+use Rattle.gm_base.proofs.Options.{same_some}
 use Rattle.gm_base.proofs.Options.{no_some}
 use Rattle.gm_filter.specs.declared.filter.Op.{Op}
 use Rattle.gm_filter.specs.declared.filter.Op.TheVariants as op
@@ -26,9 +27,6 @@ use Rattle.gm_ecql.specs.Token.{Seen, a_keyword, a_name, a_text, an_instant, a_n
 use Rattle.gm_ecql.proofs.Readers.{keyword_first, symbol_first, name_first, text_first}
 use Rattle.gm_ecql.proofs.Readers.{number_first, instant_first}
 
-pub some_is : {A : Type 0} (x y : A) → ◌≡◌ {A = Option A} (Some x) (Some y) → x ≡ y
-some_is x y e = cc
-
 -- what a step gave, where the steps behind it give something
 pub bound : {A B : Type 0} (o : Option A) (f : A → Option B) (y : B) → o >>= f ≡ Some y
     → (x : A) × (o ≡ Some x) × (f x ≡ Some y)
@@ -38,7 +36,7 @@ bound (Some x) f y h = (x, refl, h)
 pub mapped : {A B : Type 0} (o : Option A) (f : A → B) (y : B) → option_map f o ≡ Some y
     → (x : A) × (o ≡ Some x) × (f x ≡ y)
 mapped None f y h = no_some y h
-mapped (Some x) f y h = (x, refl, some_is (f x) y h)
+mapped (Some x) f y h = (x, refl, same_some (f x) y h)
 
 pub chose : {A B : Type 0} (o : Option A) (f : A → B) (other z : B) → or_else o f other ≡ z
     → ((x : A) × (o ≡ Some x) × (f x ≡ z)) ⊎ ((o ≡ None) × (other ≡ z))
@@ -49,7 +47,7 @@ truth_first : (ts : List Seen) (r : Bool × List Seen) → truth_at ts ≡ Some 
     → ts ≡ literal_token (of_truth r.0) ∷ r.1
 truth_first ts r h = elim (chose (after_keyword keyword.True ts) _ _ _ h) [
   | inl c ↦
-      let e : (true, c.0) ≡ r = some_is _ _ c.2 in
+      let e : (true, c.0) ≡ r = same_some _ _ c.2 in
       subst (λ p. ts ≡ literal_token (of_truth p.0) ∷ p.1) e (keyword_first keyword.True ts c.0 c.1)
   | inr c ↦
       let m = mapped (after_keyword keyword.False ts) (λ rest. (false, rest)) r c.1 in
@@ -60,13 +58,13 @@ truth_first ts r h = elim (chose (after_keyword keyword.True ts) _ _ _ h) [
 pub constant_first : (ts : List Seen) (r : Written × List Seen) → constant_at ts ≡ Some r
     → ts ≡ literal_token r.0 ∷ r.1
 constant_first ts r h = elim (chose (text_at ts) _ _ _ h) [
-  | inl c ↦ subst (λ p. ts ≡ literal_token p.0 ∷ p.1) (some_is _ r c.2)
+  | inl c ↦ subst (λ p. ts ≡ literal_token p.0 ∷ p.1) (same_some _ r c.2)
       (text_first ts c.0.1 c.0.0 c.1)
   | inr c ↦ elim (chose (number_at ts) _ _ _ c.1) [
-    | inl c ↦ subst (λ p. ts ≡ literal_token p.0 ∷ p.1) (some_is _ r c.2)
+    | inl c ↦ subst (λ p. ts ≡ literal_token p.0 ∷ p.1) (same_some _ r c.2)
         (number_first ts c.0.1 c.0.0 c.1)
     | inr c ↦ elim (chose (instant_at ts) _ _ _ c.1) [
-      | inl c ↦ subst (λ p. ts ≡ literal_token p.0 ∷ p.1) (some_is _ r c.2)
+      | inl c ↦ subst (λ p. ts ≡ literal_token p.0 ∷ p.1) (same_some _ r c.2)
           (instant_first ts c.0.1 c.0.0 c.1)
       | inr c ↦
           let m = mapped (truth_at ts) (λ r. (of_truth r.0, r.1)) r c.1 in
@@ -83,7 +81,7 @@ separator_token false = closing
 pub separator_first : (ts : List Seen) (r : Bool × List Seen) → separator_at ts ≡ Some r
     → ts ≡ separator_token r.0 ∷ r.1
 separator_first ts r h = elim (chose (after_symbol symbol.Comma ts) _ _ _ h) [
-  | inl c ↦ subst (λ p. ts ≡ separator_token p.0 ∷ p.1) (some_is _ r c.2)
+  | inl c ↦ subst (λ p. ts ≡ separator_token p.0 ∷ p.1) (same_some _ r c.2)
       (symbol_first symbol.Comma ts c.0 c.1)
   | inr c ↦
       let m = mapped (after_symbol symbol.Closing ts) (λ rest. (false, rest)) r c.1 in
@@ -113,7 +111,7 @@ module _ {A : Type 0} (item : Reader A) (token : A → Seen)
           → behind ≡ separator_token more ∷ later
           → member_then (members_at item n) x more later ≡ Some r → Listed ts r.0 r.1
       by_separator x behind false later again e f g =
-          subst (λ p. Listed ts p.0 p.1) (some_is (x ∷ [], later) r g)
+          subst (λ p. Listed ts p.0 p.1) (same_some (x ∷ [], later) r g)
           (record { some = omega arith; written = e ∙ ap (λ z. token x ∷ z) f })
       by_separator x behind true later again e f g =
           let m = mapped (members_at item n later) (λ r. (x ∷ r.0, r.1)) r g in
@@ -145,18 +143,18 @@ symbol_at_first (a_name bytes ∷ ts) r h = no_some r h
 symbol_at_first (a_text bytes ∷ ts) r h = no_some r h
 symbol_at_first (an_instant at ∷ ts) r h = no_some r h
 symbol_at_first (a_number bytes ∷ ts) r h = no_some r h
-symbol_at_first (a_symbol s ∷ ts) r h = ap (λ p. a_symbol p.0 ∷ p.1) (some_is (s, ts) r h)
+symbol_at_first (a_symbol s ∷ ts) r h = ap (λ p. a_symbol p.0 ∷ p.1) (same_some (s, ts) r h)
 
 op_symbol_of : (s : Symbol) (o : Op) → op_of s ≡ Some o → s ≡ op_symbol o
 op_symbol_of symbol.Opening o h = no_some o h
 op_symbol_of symbol.Closing o h = no_some o h
 op_symbol_of symbol.Comma o h = no_some o h
-op_symbol_of symbol.Equal o h = ap op_symbol (some_is op.Eq o h)
-op_symbol_of symbol.NotEqual o h = ap op_symbol (some_is op.Ne o h)
-op_symbol_of symbol.Less o h = ap op_symbol (some_is op.Lt o h)
-op_symbol_of symbol.AtMost o h = ap op_symbol (some_is op.Le o h)
-op_symbol_of symbol.More o h = ap op_symbol (some_is op.Gt o h)
-op_symbol_of symbol.AtLeast o h = ap op_symbol (some_is op.Ge o h)
+op_symbol_of symbol.Equal o h = ap op_symbol (same_some op.Eq o h)
+op_symbol_of symbol.NotEqual o h = ap op_symbol (same_some op.Ne o h)
+op_symbol_of symbol.Less o h = ap op_symbol (same_some op.Lt o h)
+op_symbol_of symbol.AtMost o h = ap op_symbol (same_some op.Le o h)
+op_symbol_of symbol.More o h = ap op_symbol (same_some op.Gt o h)
+op_symbol_of symbol.AtLeast o h = ap op_symbol (same_some op.Ge o h)
 op_symbol_of symbol.Slash o h = no_some o h
 
 pub op_first : (ts : List Seen) (r : Op × List Seen) → op_at ts ≡ Some r
@@ -170,10 +168,10 @@ op_first ts r h =
 pub relation_first : (ts : List Seen) (r : Relation × List Seen) → relation_at ts ≡ Some r
     → ts ≡ a_keyword (relation_word r.0) ∷ r.1
 relation_first ts r h = elim (chose (after_keyword keyword.Intersects ts) _ _ _ h) [
-  | inl c ↦ subst (λ p. ts ≡ a_keyword (relation_word p.0) ∷ p.1) (some_is _ r c.2)
+  | inl c ↦ subst (λ p. ts ≡ a_keyword (relation_word p.0) ∷ p.1) (same_some _ r c.2)
       (keyword_first keyword.Intersects ts c.0 c.1)
   | inr c ↦ elim (chose (after_keyword keyword.Disjoint ts) _ _ _ c.1) [
-    | inl c ↦ subst (λ p. ts ≡ a_keyword (relation_word p.0) ∷ p.1) (some_is _ r c.2)
+    | inl c ↦ subst (λ p. ts ≡ a_keyword (relation_word p.0) ∷ p.1) (same_some _ r c.2)
         (keyword_first keyword.Disjoint ts c.0 c.1)
     | inr c ↦
         let m = mapped (after_keyword keyword.Within ts) (λ rest. (relation.Within, rest)) r c.1 in
@@ -185,10 +183,10 @@ relation_first ts r h = elim (chose (after_keyword keyword.Intersects ts) _ _ _ 
 pub timing_first : (ts : List Seen) (r : Timing × List Seen) → timing_at ts ≡ Some r
     → ts ≡ a_keyword (timing_word r.0) ∷ r.1
 timing_first ts r h = elim (chose (after_keyword keyword.Before ts) _ _ _ h) [
-  | inl c ↦ subst (λ p. ts ≡ a_keyword (timing_word p.0) ∷ p.1) (some_is _ r c.2)
+  | inl c ↦ subst (λ p. ts ≡ a_keyword (timing_word p.0) ∷ p.1) (same_some _ r c.2)
       (keyword_first keyword.Before ts c.0 c.1)
   | inr c ↦ elim (chose (after_keyword keyword.After ts) _ _ _ c.1) [
-    | inl c ↦ subst (λ p. ts ≡ a_keyword (timing_word p.0) ∷ p.1) (some_is _ r c.2)
+    | inl c ↦ subst (λ p. ts ≡ a_keyword (timing_word p.0) ∷ p.1) (same_some _ r c.2)
         (keyword_first keyword.After ts c.0 c.1)
     | inr c ↦
         let m = mapped (after_keyword keyword.Tequals ts) (λ rest. (timing.Tequals, rest)) r c.1 in

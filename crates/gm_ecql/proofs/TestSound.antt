@@ -4,6 +4,7 @@ use Rattle.std.proofs.Common.{[], ◌∷◌, ◌++◌, length, take, drop, Optio
 use Rattle.std.proofs.Common.{refl, sym, ◌∙◌, ap, subst, arith, append_assoc, append-nil}
 use Rattle.std.proofs.Common.{length-append, ◌⊎◌, inl, inr}
 use Rattle.std.specs.Prelude.{ℤ}
+use Rattle.gm_base.proofs.Options.{same_some}
 use Rattle.gm_base.proofs.Options.{no_some}
 use Rattle.gm_filter.specs.declared.filter.Op.{Op}
 use Rattle.gm_ecql.specs.declared.keyword.Keyword.TheVariants as keyword
@@ -28,7 +29,7 @@ use Rattle.gm_ecql.specs.Token.{Seen, a_keyword, a_name, a_text, an_instant, a_n
 use Rattle.gm_ecql.proofs.Readers.{keyword_first, symbol_first, name_first, text_first}
 use Rattle.gm_ecql.proofs.Readers.{number_first, instant_first}
 use Rattle.gm_ecql.proofs.Sound.{chosen}
-use Rattle.gm_ecql.proofs.TestFirst.{some_is, bound, mapped, chose, constant_first}
+use Rattle.gm_ecql.proofs.TestFirst.{bound, mapped, chose, constant_first}
 use Rattle.gm_ecql.proofs.TestFirst.{separator_token, separator_first, list_first, op_first}
 use Rattle.gm_ecql.proofs.TestFirst.{relation_first, timing_first, not_first}
 
@@ -77,7 +78,7 @@ during_there ts behind r e h =
     instant_first behind a.0.1 a.0.0 a.1
     ∙ ap (λ z. an_instant a.0.0 ∷ z) (symbol_first symbol.Slash a.0.1 b.0 b.1)
     ∙ ap (λ z. an_instant a.0.0 ∷ a_symbol symbol.Slash ∷ z) (instant_first b.0 c.0.1 c.0.0 c.1) in
-    subst (λ p. AskedThere ts p.0 p.1) (some_is (during a.0.0 c.0.0, c.0.1) r c.2) (record {
+    subst (λ p. AskedThere ts p.0 p.1) (same_some (during a.0.0 c.0.0, c.0.1) r c.2) (record {
       formed = λ name. tt;
       written = λ name. ap (λ z. a_name name ∷ z) e
           ∙ ap (λ z. a_name name ∷ a_keyword keyword.During ∷ z) inner;
@@ -120,7 +121,7 @@ between_there n ts behind r e h =
     ∙ ap (λ z. a_keyword keyword.Between ∷ low ∷ a_keyword keyword.And ∷ z)
     (constant_first b.0 c.0 c.1) in
     subst (λ p. NegatableThere n ts p.0 p.1)
-    (some_is (between n a.0.0 c.0.0, c.0.1) r c.2) (record {
+    (same_some (between n a.0.0 c.0.0, c.0.1) r c.2) (record {
       formed = λ name. tt;
       written = λ name. behind_not name n ts
           (a_keyword keyword.Between ∷ low ∷ a_keyword keyword.And ∷ high ∷ []) c.0.1 inner;
@@ -197,7 +198,7 @@ name_comma_first ts r h =
     let a = bound (after_symbol symbol.Opening ts) _ r h in
     let b = bound (name_at a.0) _ r a.2 in
     let c = bound (after_symbol symbol.Comma b.0.1) _ r b.2 in
-    subst (λ p. ts ≡ opening ∷ a_name p.0 ∷ comma ∷ p.1) (some_is (b.0.0, c.0) r c.2)
+    subst (λ p. ts ≡ opening ∷ a_name p.0 ∷ comma ∷ p.1) (same_some (b.0.0, c.0) r c.2)
     (symbol_first symbol.Opening ts a.0 a.1 ∙ ap (λ z. opening ∷ z) (name_first a.0 b.0.1 b.0.0 b.1)
     ∙ ap (λ z. opening ∷ a_name b.0.0 ∷ z) (symbol_first symbol.Comma b.0.1 c.0 c.1))
 
@@ -206,7 +207,7 @@ number_comma_first : (ts : List Seen) (r : List ℕ × List Seen) → number_the
 number_comma_first ts r h =
     let b = bound (number_at ts) _ r h in
     let c = bound (after_symbol symbol.Comma b.0.1) _ r b.2 in
-    subst (λ p. ts ≡ a_number p.0 ∷ comma ∷ p.1) (some_is (b.0.0, c.0) r c.2)
+    subst (λ p. ts ≡ a_number p.0 ∷ comma ∷ p.1) (same_some (b.0.0, c.0) r c.2)
     (number_first ts b.0.1 b.0.0 b.1
     ∙ ap (λ z. a_number b.0.0 ∷ z) (symbol_first symbol.Comma b.0.1 c.0 c.1))
 
@@ -222,7 +223,7 @@ corners_first ts r h =
     let b = bound (number_then_comma a.0.1) _ r a.2 in
     let c = bound (number_then_comma b.0.1) _ r b.2 in
     let d = bound (number_at c.0.1) _ r c.2 in
-    subst (λ p. ts ≡ sides_tokens p.0 p.1) (some_is _ r d.2)
+    subst (λ p. ts ≡ sides_tokens p.0 p.1) (same_some _ r d.2)
     (number_comma_first ts a.0 a.1
     ∙ ap (λ z. a_number a.0.0 ∷ comma ∷ z) (number_comma_first a.0.1 b.0 b.1)
     ∙ ap (λ z. a_number a.0.0 ∷ comma ∷ a_number b.0.0 ∷ comma ∷ z)
@@ -240,11 +241,11 @@ system_first ts r h =
         → system_behind more behind ≡ Some r
         → ts ≡ system_tokens r.0 ++ closing ∷ r.1
     by_more false behind e g =
-        subst (λ p. ts ≡ system_tokens p.0 ++ closing ∷ p.1) (some_is (None, behind) r g) e
+        subst (λ p. ts ≡ system_tokens p.0 ++ closing ∷ p.1) (same_some (None, behind) r g) e
     by_more true behind e g =
         let a = bound (text_at behind) _ r g in
         let b = bound (after_symbol symbol.Closing a.0.1) _ r a.2 in
-        subst (λ p. ts ≡ system_tokens p.0 ++ closing ∷ p.1) (some_is (Some a.0.0, b.0) r b.2)
+        subst (λ p. ts ≡ system_tokens p.0 ++ closing ∷ p.1) (same_some (Some a.0.0, b.0) r b.2)
         (e ∙ ap (λ z. comma ∷ z) (text_first behind a.0.1 a.0.0 a.1)
         ∙ ap (λ z. comma ∷ a_text a.0.0 ∷ z) (symbol_first symbol.Closing a.0.1 b.0 b.1))
 
@@ -257,7 +258,7 @@ box_there ts behind r e h =
     let inside : List Seen → List Seen =
     λ z. opening ∷ a_name a.0.0 ∷ comma ∷ sides_tokens b.0.0 z in
     subst (λ p. TestThere ts p.0 p.1)
-    (some_is (named a.0.0 (in_box b.0.0 c.0.0), c.0.1) r c.2) (record {
+    (same_some (named a.0.0 (in_box b.0.0 c.0.0), c.0.1) r c.2) (record {
       formed = tt;
       written = e ∙ ap (λ z. a_keyword keyword.Bbox ∷ z) (name_comma_first behind a.0 a.1)
           ∙ ap (λ z. a_keyword keyword.Bbox ∷ opening ∷ a_name a.0.0 ∷ comma ∷ z)
@@ -274,7 +275,7 @@ group_cut depth n [] h = no_some n h
 group_cut depth n (t ∷ ts) h = elim (chosen (depth_behind depth t == 0) _ _ _ h) [
   | inl p ↦ subst
       (λ k. (group_count depth (take k (t ∷ ts)) ≡ Some k) × (length (take k (t ∷ ts)) ≡ k))
-      (some_is 1 n p.1)
+      (same_some 1 n p.1)
       (ap (λ x. cond x (Some 1) (option_map suc (group_count (depth_behind depth t) []))) p.0, refl)
   | inr p ↦
       let m = mapped (group_count (depth_behind depth t) ts) suc n p.1 in
@@ -322,7 +323,7 @@ piece_there (t ∷ ts) r h = elim (chosen (is_geometry_word t) _ _ _ h) [
         ∙ ap (λ z. (t ∷ z, drop (length front) front)) (take_length front)
         ∙ ap (λ z. (t ∷ front, z)) (drop_length front) in
         subst (λ p. IsGeometryPiece p.0 × (t ∷ ts ≡ p.0 ++ p.1))
-        (some_is (t ∷ front, drop n ts) r g) (
+        (same_some (t ∷ front, drop n ts) r g) (
           ap (λ x. cond x (cut_behind (group_count 0 front) t front) None) w
               ∙ ap (λ o. cut_behind o t front) c.0 ∙ ap (λ z. Some z) whole,
           ap (λ z. t ∷ z) (cut_join n ts),
@@ -338,7 +339,8 @@ related_there k ts behind r e h =
     let p = piece_there a.0.1 b.0 b.1 in
     let inside : List Seen → List Seen =
     λ z. a_keyword (relation_word k) ∷ opening ∷ a_name a.0.0 ∷ comma ∷ z in
-    subst (λ p. TestThere ts p.0 p.1) (some_is (named a.0.0 (related k b.0.0), c.0) r c.2) (record {
+    subst (λ p. TestThere ts p.0 p.1)
+    (same_some (named a.0.0 (related k b.0.0), c.0) r c.2) (record {
       formed = p.0;
       written = e ∙ ap (λ z. a_keyword (relation_word k) ∷ z) (name_comma_first behind a.0 a.1)
           ∙ ap inside p.1
@@ -349,10 +351,10 @@ related_there k ts behind r e h =
 lone_there : (ts : List Seen) (r : Trial × List Seen) → lone_test_at ts ≡ Some r
     → TestThere ts r.0 r.1
 lone_there ts r h = elim (chose (after_keyword keyword.Include ts) _ _ _ h) [
-  | inl c ↦ subst (λ p. TestThere ts p.0 p.1) (some_is (include, c.0) r c.2)
+  | inl c ↦ subst (λ p. TestThere ts p.0 p.1) (same_some (include, c.0) r c.2)
       (record { formed = tt; written = keyword_first keyword.Include ts c.0 c.1 })
   | inr c ↦ elim (chose (after_keyword keyword.Exclude ts) _ _ _ c.1) [
-    | inl c ↦ subst (λ p. TestThere ts p.0 p.1) (some_is (exclude, c.0) r c.2)
+    | inl c ↦ subst (λ p. TestThere ts p.0 p.1) (same_some (exclude, c.0) r c.2)
         (record { formed = tt; written = keyword_first keyword.Exclude ts c.0 c.1 })
     | inr c ↦ elim (chose (after_keyword keyword.Bbox ts) _ _ _ c.1) [
       | inl c ↦ box_there ts c.0 r (keyword_first keyword.Bbox ts c.0 c.1) c.2
