@@ -1,7 +1,7 @@
 -- Lemmas on lists that proofs of several crates need.
 use Rattle.std.proofs.Common.{◌≡◌, ◌<◌, ℕ, zero, suc, ◌+◌, ◌-◌, Bool, true, false, ◌&&◌, ◌||◌, cond}
 use Rattle.std.proofs.Common.{List, [], ◌∷◌, ◌++◌, length, map, take, drop, take_all, length-drop}
-use Rattle.std.proofs.Common.{Option, None, refl, ap, ◌∙◌, arith}
+use Rattle.std.proofs.Common.{None, refl, ap, ◌∙◌, arith}
 use Rattle.std.specs.Prelude.{slice_get}
 use Rattle.std.specs.List.{AllByRecursion, list_all, list_any, prefix_len}
 

@@ -1,7 +1,6 @@
 -- Lemmas on numbers and their comparisons that proofs of several crates need.
-use Rattle.std.proofs.Common.{◌≡◌, ◌≢◌, ◌<◌, ◌≤◌, ℕ, zero, suc, ◌+◌, ◌*◌, ◌^◌, Bool, true, false}
-use Rattle.std.proofs.Common.{◌==◌, nat_eq, nat_le, ℤ, List, [], ◌∷◌, All, refl, sym, arith}
-use Rattle.std.proofs.Common.{pow-suc}
+use Rattle.std.proofs.Common.{◌≡◌, ◌≢◌, ◌<◌, ◌≤◌, ℕ, zero, suc, ◌+◌, ◌*◌, ◌^◌, true, false, ◌==◌}
+use Rattle.std.proofs.Common.{nat_eq, nat_le, ℤ, List, [], ◌∷◌, All, refl, sym, arith, pow-suc}
 use Rattle.std.proofs.lemmas.Bool.{eq-eqb}
 use Rattle.std.proofs.lemmas.Bool.Decides.{nat_tests}
 use Rattle.std.proofs.lemmas.Int.{ints}

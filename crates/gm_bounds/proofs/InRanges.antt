@@ -34,8 +34,7 @@ use Rattle.gm_filter.specs.declared.filter.Literal.TheVariants as literal
 use Rattle.gm_filter.specs.Comparison.{compares}
 use Rattle.gm_filter.specs.Like.{is_like, has_wildcard, plain_front}
 use Rattle.gm_filter.specs.Suitability.{Suits, passes_kind, may_compare, may_lie_between}
-use Rattle.gm_filter.specs.Suitability.{may_be_one_of}
-use Rattle.gm_filter.specs.Suitability.{is_literal_of, is_op_of, is_ordered, is_text}
+use Rattle.gm_filter.specs.Suitability.{may_be_one_of, is_literal_of, is_op_of, is_ordered, is_text}
 use Rattle.gm_filter.specs.Tree.{Tree, compare, between, like, one_of, during, before, after}
 use Rattle.gm_filter.specs.Tree.{tequals}
 use Rattle.gm_filter.specs.Truth.{is_true, lies_between, lies_during, is_one_of, is_text_like}

@@ -3,7 +3,7 @@ use Rattle.std.proofs.Common.{◌≡◌, ℕ, Bool, true, false, ◌&&◌, ◌||
 use Rattle.std.proofs.Common.{◌∙◌, true≢false, Option, Some, None, arith, subst}
 use Rattle.std.proofs.lemmas.Bool.{and_parts, and_from}
 use Rattle.std.proofs.lemmas.Int.{ints, clamps}
-use Rattle.std.specs.Prelude.{ℤ, int_le, int_lt, ◌≤ℤ◌, is_none, IsSome, option_and_then}
+use Rattle.std.specs.Prelude.{int_le, int_lt, ◌≤ℤ◌, IsSome, option_and_then}
 use Rattle.gm_base.proofs.Numbers.{le_from, le_to}
 use Rattle.gm_base.proofs.Options.{none_is}
 use Rattle.gm_geom.specs.declared.point.Point.{Point}

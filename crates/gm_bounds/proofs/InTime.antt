@@ -32,9 +32,8 @@ use Rattle.gm_bounds.specs.Found.{IsFound}
 use Rattle.gm_bounds.specs.Interval.{interval, met, joined, is_void, is_void_between, is_in}
 use Rattle.gm_bounds.specs.Interval.{is_date_in, has_begun, has_not_ended, greater_if_any}
 use Rattle.gm_bounds.specs.Interval.{less_if_any, less_if_both, greater_if_both}
-use Rattle.gm_bounds.specs.Time.{interval_rules, interval_test, intervals_of, intervals_at}
-use Rattle.gm_bounds.specs.Time.{lasting, dated, compared, lying_between, instant_of}
-use Rattle.gm_bounds.specs.Time.{instants_of}
+use Rattle.gm_bounds.specs.Time.{interval_rules, interval_test, intervals_of, intervals_at, lasting}
+use Rattle.gm_bounds.specs.Time.{dated, compared, lying_between, instant_of, instants_of}
 use Rattle.gm_bounds.specs.Lists.{listed}
 use Rattle.gm_bounds.proofs.Sound.{Widens, Narrows, AreFull, IsSoundFor, meeting_finds}
 use Rattle.gm_bounds.proofs.Sound.{capped_finds, single_finds, listed_finds, on_finds, found}

@@ -1,7 +1,6 @@
 -- The literals of a filter that suits a type are kept.
-use Rattle.std.proofs.Common.{◌≡◌, true, ◌&&◌, refl, sym, Option, Some, None, true≢false}
+use Rattle.std.proofs.Common.{◌≡◌, true, ◌&&◌}
 use Rattle.std.proofs.lemmas.Bool.{and_parts}
-use Rattle.std.specs.Prelude.{is_none}
 use Rattle.gm_base.proofs.Options.{none_is}
 use Rattle.gm_geom.specs.Validity.{fault_of}
 use Rattle.gm_types.specs.Specification.{Specification}

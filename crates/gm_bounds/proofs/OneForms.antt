@@ -3,7 +3,7 @@ use Rattle.std.proofs.Common.{Fits, get_or, inl, inr, ◌≡◌, ℕ, zero, suc,
 use Rattle.std.proofs.Common.{◌^◌, ◌<◌, Bool, true, false, ◌&&◌, [], ◌∷◌, ◌++◌, length}
 use Rattle.std.proofs.Common.{length-append, take, slice_index, refl, sym, ap, ◌∙◌, true≢false}
 use Rattle.std.proofs.Common.{Option, Some, None, cond, eqb, arith, subst, append-nil, mod-eq_of_lt}
-use Rattle.std.proofs.Common.{mod-lt, div-one, pow-suc, drop}
+use Rattle.std.proofs.Common.{mod-lt, div-one, drop}
 use Rattle.std.proofs.Math.Nat.{one-le-pow}
 use Rattle.std.proofs.lemmas.Bool.{and_parts, and_from, or_cases, or_left, or_right, eqb-true}
 use Rattle.std.proofs.lemmas.Bool.{eq-eqb, ltb-true}
@@ -11,11 +11,11 @@ use Rattle.std.proofs.lemmas.Bool.Decides.{same_from_decides, nat_tests}
 use Rattle.std.proofs.lemmas.Int.{ints}
 use Rattle.std.proofs.lemmas.List.{drop_all}
 use Rattle.std.proofs.lemmas.List.Elements.{All-from_recursion, recursion_from_All}
-use Rattle.std.proofs.lemmas.Nat.{same_from_place, pow-add, mod-pow-add}
+use Rattle.std.proofs.lemmas.Nat.{same_from_place, mod-pow-add}
 use Rattle.std.proofs.lemmas.Slice.Eq.{bytes_eq-Decides}
 use Rattle.std.proofs.lemmas.Str.{IsUtf8-from_is_utf8, is_utf8-from_IsUtf8}
 use Rattle.std.specs.Bool.{Decides}
-use Rattle.std.specs.Prelude.{ℤ, pos, negsuc, ◌+ℤ◌, ◌-ℤ◌, ◌≤ℤ◌, neg_ℤ, int_le, bit_xor, FitsSigned}
+use Rattle.std.specs.Prelude.{ℤ, pos, negsuc, ◌+ℤ◌, ◌-ℤ◌, neg_ℤ, int_le, bit_xor, FitsSigned}
 use mir.Syntax.{w8}
 use Rattle.std.specs.Int.{w32, w64, byte_at, cast_unsigned}
 use Rattle.std.specs.List.{list_all, AllByRecursion}

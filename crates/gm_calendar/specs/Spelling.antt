@@ -7,8 +7,7 @@ use Rattle.std.specs.Prelude.{unsigned_abs, Option, Some, None}
 use Rattle.std.specs.Char.{is_ascii_digit}
 use Rattle.std.specs.List.{list_all, prefix_len}
 use Rattle.jiff_core.specs.Calendar.{days_from_civil}
-use Rattle.gm_base.specs.Ascii.{next_digit}
-use Rattle.gm_base.specs.Ascii.{plus_sign, minus_sign, decimal_point, digit_zero, colon}
+use Rattle.gm_base.specs.Ascii.{next_digit, plus_sign, minus_sign, decimal_point, digit_zero, colon}
 use Rattle.gm_base.specs.Ascii.{letter_t, letter_z}
 use Rattle.gm_calendar.specs.Calendar.{days_of_month, days_of_year, days_of_nth_month, span_at}
 use Rattle.gm_calendar.specs.Instant.{day_ms, hour_ms, minute_ms, second_ms, ms_before_1970}

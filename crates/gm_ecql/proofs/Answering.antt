@@ -1,17 +1,16 @@
 -- What reading answers is what the text spells, for filters and for changes alike.
-use Rattle.std.proofs.Common.{◌≡◌, ℕ, Bool, true, false, cond, List, [], ◌∷◌, Option, Some, None}
-use Rattle.std.proofs.Common.{refl, sym, ap, ◌∙◌, subst, ◌⊎◌, inl, inr}
+use Rattle.std.proofs.Common.{◌≡◌, ℕ, Bool, true, false, cond, List, Option, Some, None}
+use Rattle.std.proofs.Common.{refl, sym, ap, ◌∙◌, subst, inl, inr}
 use Rattle.std.specs.Prelude.{Result, Ok, Err}
 use Rattle.gm_base.proofs.Booleans.{not_both}
 use Rattle.gm_ecql.specs.declared.fault.FilterFault.{FilterFault}
 use Rattle.gm_ecql.specs.declared.fault.FilterFault.TheVariants as fault
-use Rattle.gm_ecql.specs.Fault.{IsOutOfGrammar, IsSyntaxFault, IsLimitFault, StandsFor, HasUnknown}
-use Rattle.gm_ecql.specs.Fault.{HasBad, IsFault}
+use Rattle.gm_ecql.specs.Fault.{StandsFor, IsFault}
 use Rattle.gm_ecql.specs.Judging.{NameFaults, faultless}
 use Rattle.gm_ecql.specs.Limits.{are_within, are_numbers_apart}
 use Rattle.gm_ecql.specs.Outcome.{tokens_of, kept_tokens, if_sound, if_faultless, if_parsed}
-use Rattle.gm_ecql.specs.Outcome.{outcome_by, KeepsLimits, Answers}
-use Rattle.gm_ecql.specs.Token.{Seen, SpellsTokens, unspaced}
+use Rattle.gm_ecql.specs.Outcome.{outcome_by, KeepsLimits}
+use Rattle.gm_ecql.specs.Token.{Seen, unspaced}
 use Rattle.gm_ecql.proofs.Lists.{one_list}
 use Rattle.gm_ecql.proofs.Outcomes.{tokens_sound, tokens_complete, none_spelled}
 

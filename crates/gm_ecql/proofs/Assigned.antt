@@ -9,7 +9,7 @@ use Rattle.gm_feature.specs.Value.{value_fits}
 use Rattle.gm_ecql.specs.Change.{New, Assignment, JudgedChange, new_value, is_new_spelled, faulty}
 use Rattle.gm_ecql.specs.Change.{assigned, kept_value, place_and_kind, assignment_at, assignment_of}
 use Rattle.gm_ecql.specs.Change.{assignment_tokens_at, change_judged, change_document}
-use Rattle.gm_ecql.specs.Judging.{NameFaults, Judged, faultless, first_name, first_faults}
+use Rattle.gm_ecql.specs.Judging.{faultless, first_name, first_faults}
 use Rattle.gm_ecql.specs.Outcome.{MayHold}
 use Rattle.gm_ecql.specs.Parser.{document}
 use Rattle.gm_ecql.specs.Reader.{◌>>=◌}

@@ -1,11 +1,8 @@
 -- What reading a change answers, by what the text spells.
-use Rattle.std.proofs.Common.{◌≡◌, ℕ, Bool, true, List, Option, Some, None, refl, sym, ap, ◌∙◌}
-use Rattle.std.proofs.Common.{subst}
+use Rattle.std.proofs.Common.{◌≡◌, ℕ, Bool, true, List, Some, sym, ap, ◌∙◌, subst}
 use Rattle.std.specs.Prelude.{Result, Ok, Err}
 use Rattle.gm_types.specs.Specification.{Specification}
-use Rattle.gm_feature.specs.declared.value.Value.{Value}
 use Rattle.gm_filter.specs.Suitability.{Suits}
-use Rattle.gm_filter.specs.Tree.{Tree, tree}
 use Rattle.gm_ecql.specs.declared.change.Change.{Change}
 use Rattle.gm_ecql.specs.declared.fault.FilterFault.{FilterFault}
 use Rattle.gm_ecql.specs.declared.fault.FilterFault.TheVariants as fault

@@ -1,11 +1,7 @@
 -- Changes: what is read is spelled so, and what is spelled is read.
-use Rattle.std.proofs.Common.{◌≡◌, ℕ, zero, suc, Bool, true, false, ◌==◌, cond, List, [], ◌∷◌, ◌++◌}
-use Rattle.std.proofs.Common.{length, Option, Some, None, option_map, refl, sym, ◌∙◌, ap, subst}
-use Rattle.std.proofs.Common.{append_assoc, append-nil, ◌⊎◌, inl, inr}
-use Rattle.std.specs.List.{list_all}
-use Rattle.gm_base.proofs.Options.{same_some}
-use Rattle.gm_base.proofs.Booleans.{both_of}
-use Rattle.gm_base.proofs.Options.{no_some}
+use Rattle.std.proofs.Common.{◌≡◌, ℕ, Bool, true, false, ◌==◌, cond, List, [], ◌∷◌, ◌++◌, Some}
+use Rattle.std.proofs.Common.{None, refl, sym, ◌∙◌, ap, subst, inl, inr}
+use Rattle.gm_base.proofs.Options.{same_some, no_some}
 use Rattle.gm_base.proofs.Booleans.{not_both}
 use Rattle.gm_types.specs.Specification.{Specification}
 use Rattle.gm_filter.specs.Suitability.{Suits}
@@ -13,18 +9,17 @@ use Rattle.gm_ecql.specs.declared.keyword.Keyword.{Keyword}
 use Rattle.gm_ecql.specs.declared.keyword.Keyword.TheVariants as keyword
 use Rattle.gm_ecql.specs.Change.{New, new_literal, new_geometry, new_null, new_tokens, IsNew}
 use Rattle.gm_ecql.specs.Change.{new_at, assignment_tokens_at, assignment_of, change_judged}
-use Rattle.gm_ecql.specs.Change.{change_document, Assignment, JudgedChange, SpellsChangeJudged}
-use Rattle.gm_ecql.specs.Geometry.{piece_at, cut_behind, group_count, is_geometry_word}
-use Rattle.gm_ecql.specs.Grammar.{literal_token, IsGeometryPiece, SpellsJudged}
-use Rattle.gm_ecql.specs.Judging.{Judged, faultless}
+use Rattle.gm_ecql.specs.Change.{change_document, JudgedChange, SpellsChangeJudged}
+use Rattle.gm_ecql.specs.Geometry.{piece_at}
+use Rattle.gm_ecql.specs.Grammar.{IsGeometryPiece}
+use Rattle.gm_ecql.specs.Judging.{faultless}
 use Rattle.gm_ecql.specs.Parser.{document}
 use Rattle.gm_ecql.specs.Places.{keyword_place}
-use Rattle.gm_ecql.specs.Reader.{Reader, ◌>>=◌, or_else, after_keyword, name_at, constant_at}
-use Rattle.gm_ecql.specs.Test.{Written}
+use Rattle.gm_ecql.specs.Reader.{after_keyword, name_at, constant_at}
 use Rattle.gm_ecql.specs.Token.{Seen, a_keyword, a_name, a_text, an_instant, a_number, a_symbol}
 use Rattle.gm_ecql.specs.Words.{begins_geometry}
 use Rattle.gm_ecql.proofs.Places.{same_keyword}
-use Rattle.gm_ecql.proofs.Readers.{keyword_first, keyword_found, name_first}
+use Rattle.gm_ecql.proofs.Readers.{keyword_first, name_first}
 use Rattle.gm_ecql.proofs.Sound.{chosen}
 use Rattle.gm_ecql.proofs.TestFirst.{bound, mapped, chose, constant_first}
 use Rattle.gm_ecql.proofs.TestFound.{constant_found, piece_more}

@@ -1,8 +1,7 @@
 -- A piece that spells a token is what the scanner finds.
-use Rattle.std.proofs.Common.{◌≡◌, ◌≢◌, ℕ, zero, suc, ◌+◌, ◌-◌, ◌<◌, ◌≤◌, true, false, not}
-use Rattle.std.proofs.Common.{◌&&◌, ◌==◌, cond, List, [], ◌∷◌, ◌++◌, length, take, drop}
-use Rattle.std.proofs.Common.{Option, Some, None, refl, sym, ap, ◌∙◌, subst, arith, eqb, eqb-true}
-use Rattle.std.proofs.Common.{append_assoc, length-append, ◌⊎◌, inl, inr}
+use Rattle.std.proofs.Common.{◌≡◌, ℕ, zero, suc, ◌+◌, ◌-◌, ◌<◌, true, false, ◌==◌, cond, List, []}
+use Rattle.std.proofs.Common.{◌∷◌, ◌++◌, length, take, drop, Option, Some, None, refl, sym, ap, ◌∙◌}
+use Rattle.std.proofs.Common.{subst, arith, append_assoc, inl, inr}
 use Rattle.std.specs.Prelude.{ℤ, IsSome}
 use Rattle.std.specs.List.{list_all, prefix_len}
 use Rattle.std.specs.Char.{is_ascii_digit}
@@ -14,23 +13,20 @@ use Rattle.gm_calendar.specs.Spelling.{instant_of, has_date_form, is_instant_byt
 use Rattle.gm_ecql.specs.declared.token.Symbol.{Symbol}
 use Rattle.gm_ecql.specs.declared.token.Symbol.TheVariants as symbol
 use Rattle.gm_ecql.specs.Token.{Seen, a_keyword, a_name, a_text, an_instant, a_number, a_symbol}
-use Rattle.gm_ecql.specs.Token.{is_blank, is_word_start, is_word_byte, is_no_double, is_single}
-use Rattle.gm_ecql.specs.Token.{is_less_tail, is_more_tail, is_number_start, is_number_tail}
-use Rattle.gm_ecql.specs.Token.{is_sign, doubled, undoubled, undoubled_from, Stops, Starts}
-use Rattle.gm_ecql.specs.Token.{IsPiece, IsWord, IsKeyword, IsPlainName, IsQuotedName, IsText}
-use Rattle.gm_ecql.specs.Token.{IsInstantPiece, IsNumberPiece, IsSymbol, SymbolEnds, symbol_text}
+use Rattle.gm_ecql.specs.Token.{is_word_start, is_word_byte, is_no_double, is_single, is_less_tail}
+use Rattle.gm_ecql.specs.Token.{is_more_tail, is_number_start, doubled, Stops, IsPiece, IsWord}
+use Rattle.gm_ecql.specs.Token.{IsKeyword, IsInstantPiece, IsNumberPiece, SymbolEnds, symbol_text}
 use Rattle.std.specs.Prelude.{IsUtf8, slice_index}
-use Rattle.std.specs.Str.{is_utf8, IsAscii}
+use Rattle.std.specs.Str.{is_utf8}
 use Rattle.std.proofs.lemmas.Str.{is_utf8-from_IsUtf8, IsUtf8-from_is_utf8, IsUtf8-from_ascii}
 use Rattle.gm_ecql.specs.declared.keyword.Keyword.{Keyword}
 use Rattle.gm_ecql.specs.Words.{keyword_of}
 use Rattle.gm_ecql.specs.Scanner.{Found, if_utf8, a_name_then, a_text_then, a_number_then, as_word}
-use Rattle.gm_ecql.specs.Scanner.{word_at, name_at, closed_name, text_end, text_cut, text_at}
-use Rattle.gm_ecql.specs.Scanner.{if_instant, instant_at, is_e, goes_on, number_end, if_number}
-use Rattle.gm_ecql.specs.Scanner.{number_at, less_at, more_at, as_symbol, symbol_at, numeric_at}
-use Rattle.gm_ecql.specs.Scanner.{token_at}
+use Rattle.gm_ecql.specs.Scanner.{closed_name, text_end, text_cut, if_instant, instant_at}
+use Rattle.gm_ecql.specs.Scanner.{number_end, if_number, number_at, less_at, more_at, as_symbol}
+use Rattle.gm_ecql.specs.Scanner.{numeric_at, token_at}
 use Rattle.gm_ecql.proofs.Dates.{date_shape, date_first, take_more}
-use Rattle.gm_ecql.proofs.Scans.{run, take_run, drop_run}
+use Rattle.gm_ecql.proofs.Scans.{take_run, drop_run}
 use Rattle.gm_ecql.proofs.Sound.{undoubled_doubled, drop_one}
 use Rattle.gm_ecql.proofs.Numbers.{number_joins, joined_end, joined_ascii}
 

@@ -1,7 +1,6 @@
 -- What the reader cites of documents: what is read is spelled so, what is spelled is read, and
 -- without a fault it suits.
-use Rattle.std.proofs.Common.{◌≡◌, ℕ, Bool, true, false, ◌&&◌, List, [], ◌∷◌, Some, refl, sym, ◌∙◌}
-use Rattle.std.proofs.Common.{ap}
+use Rattle.std.proofs.Common.{◌≡◌, ℕ, Bool, true, ◌&&◌, List, [], ◌∷◌, Some, refl, ◌∙◌, ap}
 use Rattle.std.proofs.lemmas.Str.{is_utf8-from_IsUtf8}
 use Rattle.gm_types.specs.Specification.{Specification}
 use Rattle.gm_filter.specs.Suitability.{Suits}

@@ -1,7 +1,6 @@
 -- A text with each quote written twice is UTF-8 where the text is.
-use Rattle.std.proofs.Common.{◌≡◌, ℕ, Bool, true, false, ◌&&◌, ◌==◌, cond, List, [], ◌∷◌, ◌++◌}
-use Rattle.std.proofs.Common.{encode_utf8, encode_utf8_all, IsUtf8, chars, append-nil, refl, sym}
-use Rattle.std.proofs.Common.{ap, ◌∙◌}
+use Rattle.std.proofs.Common.{◌≡◌, ℕ, true, false, ◌==◌, cond, List, [], ◌∷◌, ◌++◌, encode_utf8}
+use Rattle.std.proofs.Common.{encode_utf8_all, IsUtf8, chars, append-nil, refl, sym, ap, ◌∙◌}
 use Rattle.std.specs.Str.{all_scalars}
 use Rattle.std.proofs.lemmas.Str.{encodes-chars}
 use Rattle.gm_base.proofs.Booleans.{both_from, both_of}

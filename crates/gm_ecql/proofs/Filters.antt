@@ -1,6 +1,5 @@
 -- What reading a filter answers, by what the text spells.
-use Rattle.std.proofs.Common.{◌≡◌, ℕ, Bool, true, List, Option, Some, None, refl, sym, ap, ◌∙◌}
-use Rattle.std.proofs.Common.{subst}
+use Rattle.std.proofs.Common.{◌≡◌, ℕ, Bool, true, List, Some, sym, ap, ◌∙◌, subst}
 use Rattle.std.specs.Prelude.{Result, Ok, Err}
 use Rattle.gm_types.specs.Specification.{Specification}
 use Rattle.gm_filter.specs.declared.filter.Filter.{Filter}

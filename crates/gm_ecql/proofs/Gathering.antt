@@ -1,9 +1,8 @@
 -- What the loops over members in brackets keep.
-use Rattle.std.proofs.Common.{◌≡◌, ℕ, zero, suc, ◌≤◌, ◌<◌, Bool, true, false, not, List, [], ◌∷◌}
-use Rattle.std.proofs.Common.{◌++◌, length, map, Option, Some, None, option_map, Result, Ok, Err}
+use Rattle.std.proofs.Common.{◌≡◌, ℕ, zero, suc, ◌≤◌, ◌<◌, Bool, true, false, List, [], ◌∷◌}
+use Rattle.std.proofs.Common.{◌++◌, length, map, Option, Some, None, option_map, Result, Err}
 use Rattle.std.proofs.Common.{refl, sym, ◌∙◌, ap, subst, arith, append_assoc}
 use Rattle.std.specs.Prelude.{ok_or}
-use Rattle.gm_base.proofs.Booleans.{true_of_not, false_of_not}
 use Rattle.gm_ecql.specs.declared.halt.Halt.{Halt}
 use Rattle.gm_ecql.specs.declared.halt.Halt.TheVariants as halt
 use Rattle.gm_ecql.specs.declared.token.Symbol.TheVariants as symbol

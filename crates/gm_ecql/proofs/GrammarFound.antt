@@ -1,11 +1,10 @@
 -- A filter that is written is read.
-use Rattle.std.proofs.Common.{◌≡◌, ℕ, zero, suc, ◌+◌, ◌≤◌, List, [], ◌∷◌, ◌++◌, length, Option}
-use Rattle.std.proofs.Common.{Some, None, option_map, subst, refl, sym, ◌∙◌, ap, arith}
+use Rattle.std.proofs.Common.{◌≡◌, ℕ, zero, suc, ◌≤◌, List, [], ◌∷◌, ◌++◌, length, Option}
+use Rattle.std.proofs.Common.{Some, None, option_map, refl, sym, ◌∙◌, ap, arith}
 use Rattle.std.proofs.Common.{append_assoc, length-append, append-nil}
-use Rattle.gm_base.proofs.Options.{same_some}
-use Rattle.gm_base.proofs.Options.{no_some}
+use Rattle.gm_base.proofs.Options.{same_some, no_some}
 use Rattle.gm_types.specs.Specification.{Specification}
-use Rattle.gm_filter.specs.Tree.{Tree, Trees, all, any}
+use Rattle.gm_filter.specs.Tree.{all, any}
 use Rattle.gm_ecql.specs.declared.keyword.Keyword.{Keyword}
 use Rattle.gm_ecql.specs.declared.keyword.Keyword.TheVariants as keyword
 use Rattle.gm_ecql.specs.declared.token.Symbol.TheVariants as symbol
@@ -17,9 +16,9 @@ use Rattle.gm_ecql.specs.Grammar.{IsTest, test_tokens, Members, no_members, add_
 use Rattle.gm_ecql.specs.Grammar.{grouped, negated_of, factor_judged, factors_judged, terms_judged}
 use Rattle.gm_ecql.specs.Grammar.{SpellsJudged, closing}
 use Rattle.gm_ecql.specs.Judging.{Judged, judged}
-use Rattle.gm_ecql.specs.Parser.{judged_at, members_with, more, chain, term_with, filter_with}
-use Rattle.gm_ecql.specs.Parser.{closed, factor_step, factor_at, if_last, document}
-use Rattle.gm_ecql.specs.Reader.{Reader, ◌>>=◌, or_else, after_keyword, after_symbol, test_at}
+use Rattle.gm_ecql.specs.Parser.{members_with, more, term_with, filter_with}
+use Rattle.gm_ecql.specs.Parser.{closed, factor_at, if_last, document}
+use Rattle.gm_ecql.specs.Reader.{Reader, ◌>>=◌, after_keyword, after_symbol}
 use Rattle.gm_ecql.specs.Test.{Trial, include, exclude, ids, named, in_box, related, compared}
 use Rattle.gm_ecql.specs.Test.{between, like, one_of, null, during, timed}
 use Rattle.gm_ecql.specs.Token.{Seen, a_keyword, a_symbol}

@@ -1,11 +1,10 @@
 -- What is read as a filter is written there.
-use Rattle.std.proofs.Common.{◌≡◌, ℕ, zero, suc, List, [], ◌∷◌, ◌++◌, length, Option, Some, None}
-use Rattle.std.proofs.Common.{option_map, refl, sym, ◌∙◌, ap, subst, append_assoc, append-nil, ◌⊎◌}
+use Rattle.std.proofs.Common.{◌≡◌, ℕ, zero, suc, List, [], ◌∷◌, ◌++◌, length, Option, Some}
+use Rattle.std.proofs.Common.{option_map, refl, sym, ◌∙◌, ap, subst, append_assoc, append-nil}
 use Rattle.std.proofs.Common.{inl, inr}
-use Rattle.gm_base.proofs.Options.{same_some}
-use Rattle.gm_base.proofs.Options.{no_some}
+use Rattle.gm_base.proofs.Options.{same_some, no_some}
 use Rattle.gm_types.specs.Specification.{Specification}
-use Rattle.gm_filter.specs.Tree.{Tree, Trees, all, any}
+use Rattle.gm_filter.specs.Tree.{all, any}
 use Rattle.gm_ecql.specs.declared.keyword.Keyword.{Keyword}
 use Rattle.gm_ecql.specs.declared.keyword.Keyword.TheVariants as keyword
 use Rattle.gm_ecql.specs.declared.token.Symbol.TheVariants as symbol
@@ -16,13 +15,13 @@ use Rattle.gm_ecql.specs.Grammar.{Members, no_members, add_member, with_member, 
 use Rattle.gm_ecql.specs.Grammar.{factor_judged, factors_judged, terms_judged, SpellsJudged}
 use Rattle.gm_ecql.specs.Grammar.{closing}
 use Rattle.gm_ecql.specs.Judging.{Judged, judged}
-use Rattle.gm_ecql.specs.Parser.{judged_at, members_with, more, chain, term_with, filter_with}
+use Rattle.gm_ecql.specs.Parser.{judged_at, members_with, more, term_with, filter_with}
 use Rattle.gm_ecql.specs.Parser.{closed, factor_step, factor_at, if_last, document}
 use Rattle.gm_ecql.specs.Reader.{Reader, ◌>>=◌, or_else, after_keyword, after_symbol, test_at}
 use Rattle.gm_ecql.specs.Token.{Seen, a_keyword, a_symbol}
 use Rattle.gm_ecql.proofs.Readers.{keyword_first, symbol_first}
 use Rattle.gm_ecql.proofs.TestFirst.{bound, mapped, chose}
-use Rattle.gm_ecql.proofs.TestSound.{TestThere, test_there}
+use Rattle.gm_ecql.proofs.TestSound.{test_there}
 
 module _ (s : Specification) where
   pub record FactorThere (ts : List Seen) (j : Judged) (rest : List Seen) : Type 0 where

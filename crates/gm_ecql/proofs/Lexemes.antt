@@ -1,20 +1,13 @@
 -- Texts laid out as lexemes: a blank or none, and the piece of a token.
-use Rattle.std.proofs.Common.{◌≡◌, ℕ, zero, suc, ◌+◌, ◌<◌, ◌≤◌, Bool, true, false, not, ◌&&◌, ◌||◌}
-use Rattle.std.proofs.Common.{◌==◌, cond, List, [], ◌∷◌, ◌++◌, map, length, take, drop, Option}
-use Rattle.std.proofs.Common.{Some, None, refl, sym, ◌∙◌, ap, subst, arith, append_assoc}
-use Rattle.std.proofs.Common.{append-nil, ◌⊎◌, inl, inr}
-use Rattle.std.specs.Prelude.{ℤ}
-use Rattle.std.specs.List.{list_all}
+use Rattle.std.proofs.Common.{◌≡◌, ℕ, Bool, true, false, not, ◌&&◌, ◌||◌, ◌==◌, List, [], ◌∷◌, ◌++◌}
+use Rattle.std.proofs.Common.{refl, sym, ◌∙◌, ap, arith, append_assoc, append-nil}
 use Rattle.std.proofs.lemmas.Bool.Decides.{nat_tests}
 use Rattle.gm_calendar.specs.Spelling.{is_instant_byte}
-use Rattle.gm_ecql.specs.declared.keyword.Keyword.{Keyword}
 use Rattle.gm_ecql.specs.declared.token.Symbol.{Symbol}
 use Rattle.gm_ecql.specs.declared.token.Symbol.TheVariants as symbol
 use Rattle.gm_ecql.specs.Limits.{is_number, are_apart_behind, are_numbers_apart}
-use Rattle.gm_ecql.specs.Token.{Seen, a_keyword, a_name, a_text, an_instant, a_number, a_symbol}
-use Rattle.gm_ecql.specs.Token.{is_blank, is_word_byte, is_single, is_number_tail, is_less_tail}
-use Rattle.gm_ecql.specs.Token.{is_more_tail, Stops, IsPiece, IsFirst, Spells, SpellsTokens}
-use Rattle.gm_ecql.specs.Token.{IsUnspaced, symbol_text, unspaced}
+use Rattle.gm_ecql.specs.Token.{Seen, is_word_byte, is_single, is_number_tail, Stops, IsPiece}
+use Rattle.gm_ecql.specs.Token.{IsFirst, Spells, unspaced}
 
 pub record Lexeme : Type 0 where
   pub blank : Bool

@@ -1,23 +1,22 @@
 -- Lists of tokens: what the loop of the scanner keeps, and that a text spells at most one.
-use Rattle.std.proofs.Common.{◌≡◌, ◌≢◌, ℕ, zero, suc, ◌+◌, ◌<◌, ◌≤◌, Bool, true, false, ◌&&◌, ◌||◌}
-use Rattle.std.proofs.Common.{◌==◌, nat_lt, cond, List, [], ◌∷◌, ◌++◌, map, length, take, drop}
-use Rattle.std.proofs.Common.{Option, Some, None, option_map, refl, sym, ap, ◌∙◌, subst, arith}
-use Rattle.std.proofs.Common.{append_assoc, append-nil, eqb-true, length-append, length-drop, ◌⊎◌}
-use Rattle.std.proofs.Common.{inl, inr}
-use Rattle.std.specs.List.{list_all, prefix_len}
+use Rattle.std.proofs.Common.{◌≡◌, ◌≢◌, ℕ, zero, suc, ◌+◌, ◌<◌, ◌≤◌, Bool, true, false, ◌||◌, ◌==◌}
+use Rattle.std.proofs.Common.{nat_lt, List, [], ◌∷◌, ◌++◌, map, length, take, drop, Some, None}
+use Rattle.std.proofs.Common.{refl, sym, ap, ◌∙◌, subst, arith, append_assoc, append-nil, eqb-true}
+use Rattle.std.proofs.Common.{length-append, length-drop, inl, inr}
+use Rattle.std.specs.List.{prefix_len}
 use Rattle.std.proofs.lemmas.Bool.Decides.{nat_tests}
 use Rattle.gm_base.proofs.Lists.{take_drop, run_passes}
 use Rattle.gm_base.proofs.Options.{same_pair}
 use Rattle.gm_ecql.specs.Token.{Seen, a_keyword, a_name, a_text, an_instant, a_number, a_symbol}
-use Rattle.gm_ecql.specs.Token.{is_blank, is_word_start, is_word_byte, is_number_start}
+use Rattle.gm_ecql.specs.Token.{is_blank, is_word_start, is_number_start}
 use Rattle.gm_ecql.specs.Token.{is_some_list, Stops, Starts, symbol_text, IsPiece, IsFirst}
 use Rattle.gm_ecql.specs.Token.{IsUnspaced, Spells, SpellsTokens}
 use Rattle.gm_calendar.specs.Spelling.{has_date_form}
 use Rattle.gm_ecql.specs.declared.token.Symbol.{Symbol}
 use Rattle.gm_ecql.specs.declared.token.Symbol.TheVariants as symbol
 use Rattle.gm_ecql.specs.Scanner.{Found, token_at, skip_blanks}
-use Rattle.gm_ecql.proofs.Scans.{run, take_run, drop_run, run_stops}
-use Rattle.gm_ecql.proofs.Sound.{At, token_sound}
+use Rattle.gm_ecql.proofs.Scans.{take_run, drop_run}
+use Rattle.gm_ecql.proofs.Sound.{token_sound}
 use Rattle.gm_ecql.proofs.Complete.{token_complete}
 
 -- no token begins with a blank

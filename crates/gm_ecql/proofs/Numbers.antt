@@ -1,17 +1,15 @@
 -- A number goes on over all of its bytes, and ends behind none of its e's.
 use Rattle.std.proofs.Common.{◌≡◌, ℕ, zero, suc, ◌+◌, ◌<◌, ◌≤◌, Bool, true, false, ◌&&◌, ◌||◌, ◌==◌}
-use Rattle.std.proofs.Common.{nat_le, cond, List, [], ◌∷◌, ◌++◌, length, take, drop, slice_index}
-use Rattle.std.proofs.Common.{Option, Some, None, option_map, refl, sym, ap, ◌∙◌, subst, arith}
-use Rattle.std.proofs.Common.{eqb-true, ◌⊎◌, inl, inr}
+use Rattle.std.proofs.Common.{nat_le, cond, List, [], ◌∷◌, ◌++◌, length, drop, slice_index, Option}
+use Rattle.std.proofs.Common.{Some, None, option_map, refl, sym, ap, ◌∙◌, subst, arith, eqb-true}
 use Rattle.std.specs.Prelude.{IsSome, slice_index}
 use Rattle.std.specs.List.{list_all, prefix_len}
 use Rattle.std.specs.Char.{is_ascii_digit}
 use Rattle.std.specs.Str.Parse.{without_leading_sign, without_leading_plus, starts_with_minus}
 use Rattle.std.proofs.lemmas.Bool.Decides.{nat_tests}
 use Rattle.gm_base.proofs.Booleans.{both_of}
-use Rattle.gm_geom.specs.Number.{number_of, digits_at, behind_digits, has_point, fraction_at}
-use Rattle.gm_geom.specs.Number.{behind_fraction, is_exponent, marked_exponent, exponent_of}
-use Rattle.gm_geom.specs.Number.{mantissa_number, unsigned_number}
+use Rattle.gm_geom.specs.Number.{number_of, digits_at, behind_digits, fraction_at, behind_fraction}
+use Rattle.gm_geom.specs.Number.{is_exponent, marked_exponent, exponent_of, unsigned_number}
 use Rattle.gm_ecql.specs.Token.{Stops, is_sign, is_number_tail}
 use Rattle.gm_ecql.specs.Scanner.{is_e, goes_on, number_end}
 use Rattle.gm_ecql.proofs.Sound.{end_from}

@@ -1,11 +1,11 @@
 -- A text spells at most one filter, and one change.
-use Rattle.std.proofs.Common.{◌≡◌, ℕ, List, Some, sym, ◌∙◌, ap, subst}
+use Rattle.std.proofs.Common.{◌≡◌, ℕ, List, sym, ◌∙◌, ap, subst}
 use Rattle.gm_base.proofs.Options.{same_some}
 use Rattle.gm_types.specs.Specification.{Specification}
 use Rattle.gm_feature.specs.declared.value.Value.{Value}
 use Rattle.gm_filter.specs.Suitability.{Suits}
 use Rattle.gm_filter.specs.Tree.{Tree}
-use Rattle.gm_ecql.specs.Change.{JudgedChange, change_document}
+use Rattle.gm_ecql.specs.Change.{change_document}
 use Rattle.gm_ecql.specs.Fault.{SpellsFilter, SpellsChange}
 use Rattle.gm_ecql.specs.Parser.{document}
 use Rattle.gm_ecql.specs.Token.{unspaced}

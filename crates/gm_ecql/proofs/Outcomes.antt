@@ -1,7 +1,7 @@
 -- The tokens of a text as a function, and what its answers say.
-use Rattle.std.proofs.Common.{◌≡◌, ℕ, zero, suc, ◌<◌, ◌≤◌, Bool, true, false, cond, List, [], ◌∷◌}
-use Rattle.std.proofs.Common.{map, length, take, drop, Option, Some, None, option_map, refl, sym}
-use Rattle.std.proofs.Common.{ap, ◌∙◌, subst, arith, ◌⊎◌, inl, inr}
+use Rattle.std.proofs.Common.{◌≡◌, ℕ, zero, suc, ◌<◌, ◌≤◌, Bool, false, cond, List, [], ◌∷◌}
+use Rattle.std.proofs.Common.{map, length, Some, None, option_map, refl, sym}
+use Rattle.std.proofs.Common.{ap, ◌∙◌, subst, arith, inl, inr}
 use Rattle.std.specs.Prelude.{Result, Ok, Err, IfOk, IfErr}
 use Rattle.gm_base.proofs.Options.{same_some, no_some}
 use Rattle.gm_ecql.specs.declared.halt.Halt.{Halt}
@@ -9,9 +9,9 @@ use Rattle.gm_ecql.specs.declared.halt.Halt.TheVariants as halt
 use Rattle.gm_ecql.specs.Halt.{Gives}
 use Rattle.std.specs.List.{prefix_len}
 use Rattle.gm_ecql.specs.declared.token.Spaced.{Spaced}
-use Rattle.gm_ecql.specs.Token.{Seen, is_blank, is_some_list, IsUnspaced, Spells, SpellsTokens}
+use Rattle.gm_ecql.specs.Token.{Seen, is_blank, IsUnspaced, Spells, SpellsTokens}
 use Rattle.gm_ecql.specs.Token.{seen, seen_spaced, seen_all, unspaced}
-use Rattle.gm_ecql.specs.Scanner.{Found, token_at, skip_blanks}
+use Rattle.gm_ecql.specs.Scanner.{token_at, skip_blanks}
 use Rattle.gm_ecql.specs.Outcome.{has_blank_first, listed_with, tokens_within, tokens_of}
 use Rattle.gm_ecql.proofs.Sound.{chosen}
 use Rattle.gm_ecql.proofs.Lists.{first_found, found_first, no_found, token_nil, token_shorter}

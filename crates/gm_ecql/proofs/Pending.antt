@@ -5,7 +5,7 @@ use Rattle.std.proofs.Common.{append-nil}
 use Rattle.gm_filter.specs.Tree.{Tree, Trees}
 use Rattle.gm_ecql.specs.declared.keyword.Keyword.{Keyword}
 use Rattle.gm_ecql.specs.Grammar.{Members, no_members, add_member, grouped}
-use Rattle.gm_ecql.specs.Judging.{NameFaults, Judged, first_faults, first_name, faultless}
+use Rattle.gm_ecql.specs.Judging.{Judged, first_faults, first_name, faultless}
 use Rattle.gm_ecql.specs.Parser.{more, chain, members_with}
 use Rattle.gm_ecql.specs.Reader.{Reader, after_keyword}
 use Rattle.gm_ecql.specs.Token.{Seen}

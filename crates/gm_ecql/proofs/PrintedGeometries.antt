@@ -1,7 +1,7 @@
 -- The tokens of a printed geometry: they are one piece, and stand for the geometry.
-use Rattle.std.proofs.Common.{◌≡◌, ℕ, ℤ, pos, negsuc, zero, suc, ◌+◌, ◌-◌, ◌<◌, ◌≤◌, ◌^◌, Bool}
-use Rattle.std.proofs.Common.{true, false, not, ◌&&◌, ◌||◌, ◌==◌, cond, List, [], ◌∷◌, ◌++◌, length}
-use Rattle.std.proofs.Common.{take, drop, Option, Some, None, option_map, refl, sym, ◌∙◌, ap, subst}
+use Rattle.std.proofs.Common.{◌≡◌, ℕ, ℤ, pos, negsuc, suc, ◌+◌, ◌<◌, ◌^◌, Bool}
+use Rattle.std.proofs.Common.{true, false, not, ◌==◌, cond, List, [], ◌∷◌, ◌++◌, length}
+use Rattle.std.proofs.Common.{take, drop, Some, None, option_map, refl, sym, ◌∙◌, ap, subst}
 use Rattle.std.proofs.Common.{arith, append_assoc, append-nil, length-append, codes, if◌then◌else◌}
 use Rattle.std.proofs.Common.{leb-true, ltb-true, lit<}
 use Rattle.std.specs.List.{list_all, AllByRecursion}
@@ -19,17 +19,16 @@ use Rattle.gm_geom.specs.Geometry.{joined, points_of}
 use Rattle.gm_geom.specs.Number.{fixed_text}
 use Rattle.gm_geom.specs.Validity.{is_within, is_in_world, fault_of}
 use Rattle.gm_wkt.specs.Printer.{position_text, members_text, separator_text, list_text, line_text}
-use Rattle.gm_wkt.specs.Printer.{rings_text, lone_text, body_text, printed, FitsPoint}
+use Rattle.gm_wkt.specs.Printer.{rings_text, lone_text, printed, FitsPoint}
 use Rattle.gm_ecql.specs.declared.keyword.Keyword.{Keyword}
 use Rattle.gm_ecql.specs.declared.keyword.Keyword.TheVariants as keyword
-use Rattle.gm_ecql.specs.Geometry.{group_count, cut_behind, piece_at, text_behind, gap_text}
-use Rattle.gm_ecql.specs.Geometry.{token_text}
+use Rattle.gm_ecql.specs.Geometry.{group_count, cut_behind, text_behind, gap_text, token_text}
 use Rattle.gm_ecql.specs.Geometry as piece
 use Rattle.gm_ecql.specs.Grammar.{comma, opening, closing, IsGeometryPiece}
 use Rattle.gm_ecql.specs.Limits.{depth_behind, is_number}
 use Rattle.gm_ecql.specs.Token.{Seen, a_keyword, a_number}
 use Rattle.gm_ecql.specs.Words.{begins_geometry, keyword_text}
-use Rattle.gm_ecql.proofs.Lexemes.{lead, Lexed}
+use Rattle.gm_ecql.proofs.Lexemes.{Lexed}
 use Rattle.gm_ecql.proofs.PrintedWords.{keyword_piece}
 use Rattle.gm_ecql.proofs.Sequences.{Begins, Opened, Printed, opened, join, opened_join, blank_one}
 use Rattle.gm_ecql.proofs.Sequences.{blank_then, opened_then, piece_then, comma_then, opening_then}

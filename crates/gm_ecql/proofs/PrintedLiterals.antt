@@ -1,7 +1,6 @@
 -- Printed literals are pieces of their tokens, which stand for them again.
-use Rattle.std.proofs.Common.{◌≡◌, ℕ, ℤ, pos, negsuc, ◌<◌, ◌^◌, Bool, true, false, ◌&&◌, List, []}
-use Rattle.std.proofs.Common.{◌∷◌, take, map, Option, Some, None, option_map, refl, sym, ◌∙◌, ap}
-use Rattle.std.proofs.Common.{subst, arith}
+use Rattle.std.proofs.Common.{◌≡◌, ℤ, pos, negsuc, ◌^◌, Bool, true, false, List, [], ◌∷◌, take, map}
+use Rattle.std.proofs.Common.{Some, option_map, refl, ◌∙◌, ap, arith}
 use Rattle.std.specs.List.{list_all}
 use Rattle.std.proofs.lemmas.Bool.Decides.{nat_tests}
 use Rattle.std.proofs.lemmas.Str.{IsUtf8-from_is_utf8}
@@ -20,7 +19,7 @@ use Rattle.gm_ecql.specs.Grammar.{literal_token, by_commas, comma}
 use Rattle.gm_ecql.specs.Judging.{literal_of, literals_of, add_first}
 use Rattle.gm_ecql.specs.Printer.{literal_text, truth_text}
 use Rattle.gm_ecql.specs.Test.{Written, of_text, of_number, of_instant, of_truth}
-use Rattle.gm_ecql.specs.Token.{Seen, an_instant}
+use Rattle.gm_ecql.specs.Token.{an_instant}
 use Rattle.gm_ecql.proofs.Doubling.{doubled_utf8}
 use Rattle.gm_ecql.proofs.Fixed.{whole_printed}
 use Rattle.gm_ecql.proofs.Lexemes.{ends_instant}

@@ -1,11 +1,10 @@
 -- The printed name of an attribute is a piece of its name, and the name leads back to the
 -- attribute.
-use Rattle.std.proofs.Common.{◌≡◌, ℕ, zero, suc, ◌+◌, ◌<◌, Bool, true, false, not, ◌&&◌, ◌||◌, ◌==◌}
-use Rattle.std.proofs.Common.{cond, List, [], ◌∷◌, length, map, Option, Some, None, option_map}
+use Rattle.std.proofs.Common.{◌≡◌, ℕ, zero, suc, ◌+◌, ◌<◌, true, false, not, ◌&&◌}
+use Rattle.std.proofs.Common.{cond, List, [], ◌∷◌, length, map, Some, None, option_map}
 use Rattle.std.proofs.Common.{refl, sym, ◌∙◌, ap, subst, arith}
-use Rattle.std.specs.Prelude.{slice_get, nat_lt, position, slice_index}
+use Rattle.std.specs.Prelude.{slice_get, nat_lt, slice_index}
 use Rattle.std.specs.List.{list_all, list_any, prefix_len}
-use Rattle.std.specs.Str.{IsAscii}
 use Rattle.std.proofs.lemmas.Bool.{lt-ltb, or_parts}
 use Rattle.std.proofs.lemmas.Bool.Decides.{nat_tests}
 use Rattle.std.proofs.lemmas.Option.{slice_get-map, slice_get_within}

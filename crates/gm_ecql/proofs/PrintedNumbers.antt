@@ -1,24 +1,17 @@
 -- Printed numbers are pieces of numbers, before each end, and are read as they were.
-use Rattle.std.proofs.Common.{◌≡◌, ℕ, ℤ, pos, negsuc, zero, suc, ◌+◌, ◌<◌, ◌≤◌, Bool, true, false}
-use Rattle.std.proofs.Common.{not, ◌&&◌, ◌||◌, ◌==◌, cond, List, [], ◌∷◌, ◌++◌, length, take, drop}
-use Rattle.std.proofs.Common.{slice_index, Option, Some, None, option_map, Result, Ok, Err, refl}
-use Rattle.std.proofs.Common.{sym, ◌∙◌, ap, subst, arith, append-nil, eqb-true}
-use Rattle.std.specs.Prelude.{IsSome, is_some, nat_le, ◌^◌}
-use Rattle.std.specs.List.{list_all, prefix_len}
+use Rattle.std.proofs.Common.{◌≡◌, ℕ, zero, suc, ◌<◌, Bool, true, false, not, ◌&&◌, ◌==◌, List, []}
+use Rattle.std.proofs.Common.{◌∷◌, ◌++◌, length, take, slice_index, refl, sym, ◌∙◌, ap, subst}
+use Rattle.std.proofs.Common.{arith, eqb-true}
+use Rattle.std.specs.Prelude.{IsSome}
+use Rattle.std.specs.List.{list_all}
 use Rattle.std.specs.Char.{is_ascii_digit}
-use Rattle.std.specs.Fmt.{signed_decimal, decimal}
-use Rattle.std.specs.Str.Parse.{starts_with_minus, without_leading_sign}
-use Rattle.std.proofs.lemmas.Bool.{le-leb}
 use Rattle.std.proofs.lemmas.Bool.Decides.{nat_tests}
 use Rattle.gm_base.proofs.Booleans.{both_of}
 use Rattle.gm_calendar.specs.Spelling.{has_date_form, is_instant_byte}
-use Rattle.gm_geom.specs.Number.{number_of, unsigned_number, digits_at, behind_digits, fixed_of}
-use Rattle.gm_geom.specs.Number.{fixed_text, is_number_byte}
+use Rattle.gm_geom.specs.Number.{number_of}
 use Rattle.gm_ecql.specs.Token.{a_number, is_number_start, Starts, IsPiece}
 use Rattle.gm_ecql.proofs.Dates.{date_shape, date_first}
 use Rattle.gm_ecql.proofs.Lexemes.{Ends, is_end, ends_number}
-use Rattle.gm_ecql.proofs.Scans.{take_run, drop_run}
-
 abbrev pub is_no_dash : ℕ → Bool
 is_no_dash b = not (b == 45)
 

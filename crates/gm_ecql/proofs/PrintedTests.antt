@@ -1,5 +1,5 @@
 -- The printed text of each test is its tokens, and these stand for the test.
-use Rattle.std.proofs.Common.{◌≡◌, ℕ, ℤ, ◌<◌, ◌≤◌, Bool, true, false, ◌&&◌, cond, List, [], ◌∷◌}
+use Rattle.std.proofs.Common.{◌≡◌, ℕ, ℤ, ◌<◌, Bool, true, false, ◌&&◌, cond, List, [], ◌∷◌}
 use Rattle.std.proofs.Common.{◌++◌, length, map, codes, Option, Some, None, option_map, Ok, refl}
 use Rattle.std.proofs.Common.{sym, ◌∙◌, ap, subst, arith, append_assoc}
 use Rattle.std.specs.Prelude.{nat_le, int_le}
@@ -22,7 +22,7 @@ use Rattle.gm_wkt.specs.Printer as wkt
 use Rattle.gm_filter.specs.declared.filter.Op.{Op}
 use Rattle.gm_filter.specs.declared.filter.Op.TheVariants as op
 use Rattle.gm_filter.specs.declared.filter.Literal.{Literal}
-use Rattle.gm_filter.specs.Suitability.{Suits, suits, is_literal_of, is_kept, has_area, is_box}
+use Rattle.gm_filter.specs.Suitability.{Suits, is_literal_of, is_kept, has_area, is_box}
 use Rattle.gm_filter.specs.Suitability.{passes_kind, may_compare, may_lie_between, may_be_one_of}
 use Rattle.gm_filter.specs.Suitability.{is_op_of, is_ordered}
 use Rattle.gm_filter.specs.Tree as tree
@@ -39,15 +39,15 @@ use Rattle.gm_ecql.specs.declared.test.Relation.{Relation}
 use Rattle.gm_ecql.specs.declared.test.Relation.TheVariants as relation
 use Rattle.gm_ecql.specs.declared.test.Timing.{Timing}
 use Rattle.gm_ecql.specs.declared.test.Timing.TheVariants as timing
-use Rattle.gm_ecql.specs.Geometry.{kept_of, geometry_of}
+use Rattle.gm_ecql.specs.Geometry.{kept_of}
 use Rattle.gm_ecql.specs.Grammar.{comma, opening, closing, literal_token, by_commas, op_symbol}
 use Rattle.gm_ecql.specs.Grammar.{relation_word, timing_word, test_tokens, IsTest}
-use Rattle.gm_ecql.specs.Judging.{Judged, sound, bad, kept, candidate, judged_at, judged}
-use Rattle.gm_ecql.specs.Judging.{is_date_kind, literal_of, lies, timed_of, between_literals}
+use Rattle.gm_ecql.specs.Judging.{sound, bad, kept, candidate, judged_at, judged}
+use Rattle.gm_ecql.specs.Judging.{is_date_kind, literal_of, lies, between_literals}
 use Rattle.gm_ecql.specs.Judging.{box_of, fixed_in_range, value_in_range, point_of, box_between}
 use Rattle.gm_ecql.specs.Printer.{name_at, name_text, op_text, quoted_text, literal_text, commas}
 use Rattle.gm_ecql.specs.Printer.{corner_text, related_text, timed_text, test_text}
-use Rattle.gm_ecql.specs.Test.{Written, Sides, Question, in_box, related, compared, between, like}
+use Rattle.gm_ecql.specs.Test.{Sides, Question, in_box, related, compared, between, like}
 use Rattle.gm_ecql.specs.Test.{one_of, null, during, timed, Trial, include, exclude, ids, named}
 use Rattle.gm_ecql.specs.Token.{Seen, a_keyword, a_name, a_text, an_instant, a_number, a_symbol}
 use Rattle.gm_ecql.specs.Token.{symbol_text}

@@ -1,7 +1,6 @@
 -- The printed text of a filter is the tokens of a way to write it.
-use Rattle.std.proofs.Common.{◌≡◌, ℕ, ◌<◌, ◌≤◌, Bool, true, false, ◌&&◌, List, [], ◌∷◌, ◌++◌}
-use Rattle.std.proofs.Common.{length, codes, Option, Some, None, option_map, refl, sym, ◌∙◌, ap}
-use Rattle.std.proofs.Common.{subst, arith, append_assoc, append-nil}
+use Rattle.std.proofs.Common.{◌≡◌, ℕ, Bool, true, false, ◌&&◌, List, [], ◌∷◌, ◌++◌, length, codes}
+use Rattle.std.proofs.Common.{Some, option_map, refl, sym, ◌∙◌, ap, subst, append_assoc, append-nil}
 use Rattle.std.specs.Prelude.{nat_le}
 use Rattle.gm_base.proofs.Booleans.{both_of}
 use Rattle.gm_filter.specs.Suitability.{Suits, suits, all_suit}
@@ -16,13 +15,12 @@ use Rattle.gm_ecql.specs.Fault.{SpellsFilter}
 use Rattle.gm_ecql.specs.Grammar.{opening, closing, Factor, lone, not_factor, in_brackets, Factors}
 use Rattle.gm_ecql.specs.Grammar.{no_factors, and_factor, Terms, no_terms, or_term, factor_tokens}
 use Rattle.gm_ecql.specs.Grammar.{factors_tokens, terms_tokens, IsFactor, AreFactors, AreTerms}
-use Rattle.gm_ecql.specs.Grammar.{Members, no_members, add_member, with_member, group, grouped}
+use Rattle.gm_ecql.specs.Grammar.{Members, no_members, with_member, group, grouped}
 use Rattle.gm_ecql.specs.Grammar.{negated_of, factor_judged, factors_judged, terms_judged}
-use Rattle.gm_ecql.specs.Grammar.{SpellsJudged}
-use Rattle.gm_ecql.specs.Judging.{Judged, faultless, sound}
+use Rattle.gm_ecql.specs.Judging.{faultless, sound}
 use Rattle.gm_ecql.specs.Printer.{inner, listed, printed, test_text}
 use Rattle.gm_ecql.specs.Token.{Seen, a_keyword, IsUnspaced, Spells}
-use Rattle.gm_ecql.proofs.Lexemes.{Lexeme, text_of, tokens_of, spaced_of, AreSpelled, Follows}
+use Rattle.gm_ecql.proofs.Lexemes.{Lexeme, spaced_of, AreSpelled}
 use Rattle.gm_ecql.proofs.Lexemes.{FirstIs, Lexed, lexed, numbers_apart, unspaced_tokens}
 use Rattle.gm_ecql.proofs.PrintedTests.{Below, Tested, include_tested, exclude_tested}
 use Rattle.gm_ecql.proofs.PrintedTests.{compare_tested, between_tested, like_tested, one_of_tested}

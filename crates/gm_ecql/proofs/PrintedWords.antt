@@ -1,25 +1,18 @@
 -- The printed words, names, texts and instants are pieces of their tokens, before each end.
-use Rattle.std.proofs.Common.{◌≡◌, ℕ, zero, suc, ◌+◌, ◌<◌, ◌≤◌, Bool, true, false, not, ◌&&◌, ◌||◌}
-use Rattle.std.proofs.Common.{◌==◌, cond, List, [], ◌∷◌, ◌++◌, map, length, take, drop, Option}
-use Rattle.std.proofs.Common.{Some, None, refl, sym, ◌∙◌, ap, subst, arith, append_assoc}
-use Rattle.std.proofs.Common.{append-nil, ◌⊎◌, inl, inr}
-use Rattle.std.specs.Prelude.{ℤ, IsUtf8}
+use Rattle.std.proofs.Common.{◌≡◌, ℕ, ◌<◌, true, ◌&&◌, List, [], ◌∷◌, length, Option, Some, None}
+use Rattle.std.proofs.Common.{refl, ◌∙◌, ap, arith, inl, inr}
+use Rattle.std.specs.Prelude.{IsUtf8}
 use Rattle.std.specs.List.{list_all}
-use Rattle.std.specs.Str.{is_utf8, IsAscii}
 use Rattle.std.proofs.lemmas.Bool.Decides.{nat_tests}
-use Rattle.std.proofs.lemmas.Str.{IsUtf8-from_ascii}
 use Rattle.gm_base.proofs.Booleans.{both_of}
-use Rattle.gm_calendar.specs.Instant.{IsInstant}
-use Rattle.gm_calendar.specs.Spelling.{instant_text}
 use Rattle.gm_types.specs.Words.{is_name, begins_name, continues_name}
 use Rattle.gm_ecql.specs.declared.keyword.Keyword.{Keyword}
 use Rattle.gm_ecql.specs.declared.keyword.Keyword.TheVariants as k
 use Rattle.gm_ecql.specs.Printer.{name_text, name_unless, quoted_text}
-use Rattle.gm_ecql.specs.Token.{Seen, a_keyword, a_name, a_text, an_instant, is_word_start}
-use Rattle.gm_ecql.specs.Token.{is_word_byte, is_no_double, Stops, Starts, IsPiece, IsWord}
-use Rattle.gm_ecql.specs.Token.{doubled}
+use Rattle.gm_ecql.specs.Token.{a_keyword, a_name, a_text, is_word_start, is_word_byte}
+use Rattle.gm_ecql.specs.Token.{is_no_double, Starts, IsPiece, doubled}
 use Rattle.gm_ecql.specs.Words.{keyword_text, keyword_of}
-use Rattle.gm_ecql.proofs.Lexemes.{Ends, ends_word, ends_single, ends_instant}
+use Rattle.gm_ecql.proofs.Lexemes.{Ends, ends_word, ends_single}
 
 keyword_named : (x : Keyword) → keyword_of (keyword_text x) ≡ Some x
 unfolding keyword_of

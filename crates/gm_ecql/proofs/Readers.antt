@@ -1,12 +1,12 @@
 -- What stands first where a reader of one token finds it, and that it is found.
-use Rattle.std.proofs.Common.{◌≡◌, ℕ, Bool, true, false, ◌==◌, cond, eqb, eq-eqb, List, [], ◌∷◌}
-use Rattle.std.proofs.Common.{Option, Some, None, refl, sym, ◌∙◌, ap, subst, inl, inr}
+use Rattle.std.proofs.Common.{◌≡◌, ℕ, ◌==◌, cond, eq-eqb, List, [], ◌∷◌}
+use Rattle.std.proofs.Common.{Some, None, refl, ◌∙◌, ap, inl, inr}
 use Rattle.std.specs.Prelude.{ℤ}
 use Rattle.gm_base.proofs.Options.{same_some, no_some, same_pair}
 use Rattle.gm_ecql.specs.declared.keyword.Keyword.{Keyword}
 use Rattle.gm_ecql.specs.declared.token.Symbol.{Symbol}
 use Rattle.gm_ecql.specs.Places.{keyword_place, symbol_place}
-use Rattle.gm_ecql.specs.Reader.{after_keyword, after_symbol, symbol_at, name_at, text_at}
+use Rattle.gm_ecql.specs.Reader.{after_keyword, after_symbol, name_at, text_at}
 use Rattle.gm_ecql.specs.Reader.{number_at, instant_at}
 use Rattle.gm_ecql.specs.Token.{Seen, a_keyword, a_name, a_text, an_instant, a_number, a_symbol}
 use Rattle.gm_ecql.proofs.Places.{same_keyword, same_symbol}

@@ -1,8 +1,7 @@
 -- The loops of the scanner, a turn at a time.
 use Rattle.std.proofs.Common.{◌≡◌, ◌≢◌, ℕ, zero, suc, ◌+◌, ◌-◌, ◌<◌, ◌≤◌, Bool, true, false, not}
-use Rattle.std.proofs.Common.{◌==◌, cond, List, [], ◌∷◌, length, take, drop, get_or, Option, Some}
-use Rattle.std.proofs.Common.{None, refl, sym, ap, ◌∙◌, subst, arith, eqb, eq-eqb, ne_eqb}
-use Rattle.std.proofs.Common.{drop-cons}
+use Rattle.std.proofs.Common.{◌==◌, cond, List, [], ◌∷◌, length, drop, get_or, Some}
+use Rattle.std.proofs.Common.{None, refl, sym, ap, ◌∙◌, arith, eq-eqb, ne_eqb}
 use Rattle.gm_ecql.specs.Scanner.{text_end, number_end, goes_on, is_e}
 
 ahead : (bytes : List ℕ) (i : ℕ) → i < length bytes

@@ -1,10 +1,10 @@
 -- Runs of bytes at the front of a text.
-use Rattle.std.proofs.Common.{◌≡◌, ℕ, zero, suc, ◌+◌, ◌<◌, Bool, true, false, ◌&&◌, cond, List, []}
-use Rattle.std.proofs.Common.{◌∷◌, ◌++◌, length, take, drop, refl, sym, ap, ◌∙◌, subst, arith}
+use Rattle.std.proofs.Common.{◌≡◌, ℕ, suc, ◌+◌, Bool, true, false, cond, List, []}
+use Rattle.std.proofs.Common.{◌∷◌, ◌++◌, length, take, drop, refl, ap, ◌∙◌, subst, arith}
 use Rattle.std.specs.List.{list_all, prefix_len}
-use Rattle.gm_base.proofs.Lists.{take_front, drop_front, passes_next, run_passes, take_drop}
+use Rattle.gm_base.proofs.Lists.{take_front, drop_front}
 use Rattle.gm_base.proofs.Booleans.{both_of}
-use Rattle.gm_ecql.specs.Token.{Stops, Starts}
+use Rattle.gm_ecql.specs.Token.{Stops}
 
 pub run : (test : ℕ → Bool) (bs rest : List ℕ) → list_all test bs ≡ true → Stops test rest
     → prefix_len test (bs ++ rest) ≡ length bs

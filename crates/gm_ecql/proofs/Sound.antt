@@ -1,24 +1,21 @@
 -- What the scanner finds is a piece that spells the token.
-use Rattle.std.proofs.Common.{◌≡◌, ◌≢◌, ℕ, zero, suc, ◌+◌, ◌-◌, ◌<◌, ◌≤◌, Bool, true, false, not}
-use Rattle.std.proofs.Common.{◌&&◌, ◌||◌, ◌==◌, cond, List, [], ◌∷◌, ◌++◌, length, take, drop}
-use Rattle.std.proofs.Common.{Option, Some, None, refl, sym, ap, ◌∙◌, subst, arith, eqb, eqb-true}
-use Rattle.std.proofs.Common.{append_assoc, length-append, ◌⊎◌, inl, inr}
+use Rattle.std.proofs.Common.{◌≡◌, ℕ, suc, ◌+◌, ◌-◌, Bool, true, false, ◌&&◌, ◌||◌, ◌==◌, cond}
+use Rattle.std.proofs.Common.{List, [], ◌∷◌, ◌++◌, length, take, drop, Option, Some, None, refl}
+use Rattle.std.proofs.Common.{sym, ap, ◌∙◌, subst, arith, eqb-true, append_assoc, ◌⊎◌, inl, inr}
 use Rattle.std.specs.Prelude.{ℤ, IsSome}
 use Rattle.std.specs.List.{list_all, prefix_len}
 use Rattle.std.proofs.lemmas.Bool.Decides.{nat_tests}
-use Rattle.gm_base.proofs.Lists.{run_passes, take_drop, take_front, drop_front}
-use Rattle.gm_base.proofs.Booleans.{both_of}
+use Rattle.gm_base.proofs.Lists.{run_passes, take_drop, take_front}
 use Rattle.gm_base.proofs.Options.{same_some, same_pair}
 use Rattle.gm_geom.specs.Number.{number_of}
 use Rattle.gm_calendar.specs.Spelling.{instant_of, has_date_form, is_instant_byte}
 use Rattle.gm_ecql.specs.declared.token.Symbol.{Symbol}
 use Rattle.gm_ecql.specs.declared.token.Symbol.TheVariants as symbol
 use Rattle.gm_ecql.specs.Token.{Seen, a_keyword, a_name, a_text, an_instant, a_number, a_symbol}
-use Rattle.gm_ecql.specs.Token.{is_blank, is_word_start, is_word_byte, is_no_double, is_single}
+use Rattle.gm_ecql.specs.Token.{is_word_start, is_word_byte, is_no_double, is_single}
 use Rattle.gm_ecql.specs.Token.{is_number_start, is_number_tail, is_sign, doubled, undoubled}
-use Rattle.gm_ecql.specs.Token.{undoubled_from, Stops, Starts, IsPiece, IsWord, IsKeyword}
-use Rattle.gm_ecql.specs.Token.{IsPlainName, IsQuotedName, IsText, IsInstantPiece, IsNumberPiece}
-use Rattle.gm_ecql.specs.Token.{IsSymbol, SymbolEnds, symbol_text}
+use Rattle.gm_ecql.specs.Token.{undoubled_from, Stops, Starts, IsPiece, IsWord, IsNumberPiece}
+use Rattle.gm_ecql.specs.Token.{SymbolEnds, symbol_text}
 use Rattle.std.specs.Prelude.{IsUtf8}
 use Rattle.std.specs.Str.{is_utf8}
 use Rattle.std.proofs.lemmas.Str.{IsUtf8-from_is_utf8}
@@ -26,9 +23,8 @@ use Rattle.gm_ecql.specs.declared.keyword.Keyword.{Keyword}
 use Rattle.gm_ecql.specs.Words.{keyword_of}
 use Rattle.gm_ecql.specs.Scanner.{Found, if_utf8, a_name_then, a_text_then, a_number_then, as_word}
 use Rattle.gm_ecql.specs.Scanner.{word_at, name_at, closed_name, text_end, text_cut, text_at}
-use Rattle.gm_ecql.specs.Scanner.{if_instant, instant_at, is_e, goes_on, number_end, if_number}
-use Rattle.gm_ecql.specs.Scanner.{number_at, less_at, more_at, as_symbol, symbol_at, numeric_at}
-use Rattle.gm_ecql.specs.Scanner.{token_at}
+use Rattle.gm_ecql.specs.Scanner.{if_instant, is_e, goes_on, number_end, if_number, number_at}
+use Rattle.gm_ecql.specs.Scanner.{less_at, more_at, as_symbol, symbol_at, token_at}
 use Rattle.gm_ecql.proofs.Dates.{ten_ahead}
 use Rattle.gm_ecql.proofs.Scans.{run_stops}
 

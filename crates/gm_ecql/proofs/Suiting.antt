@@ -1,5 +1,5 @@
 -- What is read without a fault suits the type.
-use Rattle.std.proofs.Common.{◌≡◌, ℕ, zero, suc, ◌<◌, ◌≤◌, Bool, true, false, ◌&&◌, cond, List, []}
+use Rattle.std.proofs.Common.{◌≡◌, ℕ, ◌<◌, Bool, true, false, ◌&&◌, cond, List, []}
 use Rattle.std.proofs.Common.{◌∷◌, ◌++◌, length, Option, Some, None, option_map, refl, sym, ◌∙◌, ap}
 use Rattle.std.proofs.Common.{subst, arith}
 use Rattle.std.specs.Prelude.{nat_le}
@@ -13,15 +13,15 @@ use Rattle.gm_base.proofs.Options.{no_some}
 use Rattle.gm_types.specs.Specification.{Specification, place_of_name, kind_at}
 use Rattle.gm_filter.specs.Suitability.{Suits, suits, all_suit}
 use Rattle.gm_filter.specs.Tree as tree
-use Rattle.gm_filter.specs.Tree.{Tree, Trees, no_trees, tree_and, trees_of, members_of, all, any}
+use Rattle.gm_filter.specs.Tree.{Tree, tree_and, trees_of, members_of, all, any}
 use Rattle.gm_ecql.specs.Grammar.{Factor, lone, not_factor, in_brackets, Factors, no_factors}
 use Rattle.gm_ecql.specs.Grammar.{and_factor, Terms, no_terms, or_term, factor_tokens}
 use Rattle.gm_ecql.specs.Grammar.{factors_tokens, terms_tokens, IsFactor, AreFactors, AreTerms}
-use Rattle.gm_ecql.specs.Grammar.{IsTest, test_tokens, by_commas, comma, closing, Members}
+use Rattle.gm_ecql.specs.Grammar.{IsTest, test_tokens, by_commas, closing, Members}
 use Rattle.gm_ecql.specs.Grammar.{no_members, add_member, with_member, group, grouped, negated_of}
 use Rattle.gm_ecql.specs.Grammar.{factor_judged, factors_judged, terms_judged, SpellsJudged}
 use Rattle.gm_ecql.specs.Judging.{NameFaults, Judged, faultless, first_faults, first_name, kept}
-use Rattle.gm_ecql.specs.Judging.{judged_at, judged_named, judged, candidate, is_date_kind}
+use Rattle.gm_ecql.specs.Judging.{judged_at, judged, candidate, is_date_kind}
 use Rattle.gm_ecql.specs.Judging.{is_spelled, sound, unknown, bad}
 use Rattle.gm_ecql.specs.Test.{Trial, include, exclude, ids, named, Question}
 use Rattle.gm_ecql.specs.Token.{Seen, a_keyword, a_name, a_text, an_instant, a_number, a_symbol}

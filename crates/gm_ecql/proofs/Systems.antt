@@ -1,6 +1,6 @@
 -- The name of a reference system has no quote, so quotes that were written twice do not matter.
 use Rattle.std.proofs.Common.{◌≡◌, ℕ, Bool, true, false, ◌&&◌, ◌==◌, cond, List, [], ◌∷◌, refl, sym}
-use Rattle.std.proofs.Common.{ap, ◌∙◌, subst, eqb-true}
+use Rattle.std.proofs.Common.{ap, ◌∙◌, eqb-true}
 use Rattle.std.specs.Str.{bytes_eq}
 use Rattle.gm_ecql.specs.Token.{undoubled_from}
 

@@ -1,11 +1,8 @@
 -- A test that is read stands first, as it is written.
-use Rattle.std.proofs.Common.{◌≡◌, ℕ, zero, suc, ◌+◌, ◌<◌, ◌≤◌, Bool, true, false, ◌==◌, cond, List}
-use Rattle.std.proofs.Common.{[], ◌∷◌, ◌++◌, length, take, drop, Option, Some, None, option_map}
-use Rattle.std.proofs.Common.{refl, sym, ◌∙◌, ap, subst, arith, append_assoc, length-append, ◌⊎◌}
-use Rattle.std.proofs.Common.{inl, inr}
-use Rattle.std.specs.Prelude.{ℤ}
-use Rattle.gm_base.proofs.Options.{same_some}
-use Rattle.gm_base.proofs.Options.{no_some}
+use Rattle.std.proofs.Common.{◌≡◌, ℕ, zero, suc, ◌<◌, Bool, true, false, List, [], ◌∷◌, ◌++◌}
+use Rattle.std.proofs.Common.{length, Option, Some, None, option_map, refl, ◌∙◌, ap, subst, arith}
+use Rattle.std.proofs.Common.{◌⊎◌, inl, inr}
+use Rattle.gm_base.proofs.Options.{same_some, no_some}
 use Rattle.gm_filter.specs.declared.filter.Op.{Op}
 use Rattle.gm_filter.specs.declared.filter.Op.TheVariants as op
 use Rattle.gm_ecql.specs.declared.keyword.Keyword.{Keyword}
@@ -19,12 +16,12 @@ use Rattle.gm_ecql.specs.declared.test.Timing.TheVariants as timing
 use Rattle.gm_ecql.specs.Grammar.{opening, closing, comma, literal_token, by_commas, op_symbol}
 use Rattle.gm_ecql.specs.Grammar.{relation_word, timing_word, not_tokens}
 use Rattle.gm_ecql.specs.Reader.{Reader, ◌>>=◌, or_else, after_keyword, after_symbol, symbol_at}
-use Rattle.gm_ecql.specs.Reader.{name_at, text_at, number_at, instant_at, truth_at, constant_at}
+use Rattle.gm_ecql.specs.Reader.{text_at, number_at, instant_at, truth_at, constant_at}
 use Rattle.gm_ecql.specs.Reader.{separator_at, member_then, members_at, list_at, op_of, op_at}
 use Rattle.gm_ecql.specs.Reader.{not_at, relation_at, timing_at}
-use Rattle.gm_ecql.specs.Test.{Written, of_text, of_number, of_instant, of_truth}
+use Rattle.gm_ecql.specs.Test.{Written, of_truth}
 use Rattle.gm_ecql.specs.Token.{Seen, a_keyword, a_name, a_text, an_instant, a_number, a_symbol}
-use Rattle.gm_ecql.proofs.Readers.{keyword_first, symbol_first, name_first, text_first}
+use Rattle.gm_ecql.proofs.Readers.{keyword_first, symbol_first, text_first}
 use Rattle.gm_ecql.proofs.Readers.{number_first, instant_first}
 
 -- what a step gave, where the steps behind it give something

@@ -1,8 +1,7 @@
 -- A test that is written is read.
-use Rattle.std.proofs.Common.{◌≡◌, ℕ, zero, suc, ◌+◌, ◌<◌, ◌≤◌, Bool, true, false, ◌==◌, cond, List}
-use Rattle.std.proofs.Common.{[], ◌∷◌, ◌++◌, length, take, drop, Option, Some, None, option_map}
-use Rattle.std.proofs.Common.{refl, sym, ◌∙◌, ap, subst, arith, append_assoc, length-append, ◌⊎◌}
-use Rattle.std.proofs.Common.{inl, inr}
+use Rattle.std.proofs.Common.{◌≡◌, ℕ, zero, suc, ◌<◌, ◌≤◌, Bool, true, false, ◌==◌, cond, List, []}
+use Rattle.std.proofs.Common.{◌∷◌, ◌++◌, length, take, drop, Option, Some, None, option_map, refl}
+use Rattle.std.proofs.Common.{◌∙◌, ap, arith, append_assoc, length-append, ◌⊎◌, inl, inr}
 use Rattle.std.specs.Prelude.{ℤ}
 use Rattle.gm_base.proofs.Options.{same_some}
 use Rattle.gm_filter.specs.declared.filter.Op.{Op}
@@ -14,17 +13,16 @@ use Rattle.gm_ecql.specs.declared.test.Relation.TheVariants as relation
 use Rattle.gm_ecql.specs.declared.test.Timing.{Timing}
 use Rattle.gm_ecql.specs.declared.test.Timing.TheVariants as timing
 use Rattle.gm_ecql.specs.Geometry.{piece_at, group_count, cut_behind, is_geometry_word}
-use Rattle.gm_ecql.specs.Grammar.{opening, closing, comma, literal_token, by_commas}
+use Rattle.gm_ecql.specs.Grammar.{closing, comma, literal_token, by_commas}
 use Rattle.gm_ecql.specs.Grammar.{in_brackets_tokens, op_symbol, timing_word, not_tokens}
 use Rattle.gm_ecql.specs.Grammar.{question_tokens, test_tokens, IsGeometryPiece, IsTest}
 use Rattle.gm_ecql.specs.Limits.{depth_behind}
-use Rattle.gm_ecql.specs.Reader.{Reader, ◌>>=◌, constant_at, text_at, separator_at, members_at}
-use Rattle.gm_ecql.specs.Reader.{list_at, member_then, asked_at, lone_test_at, test_at, bbox_at}
-use Rattle.gm_ecql.specs.Reader.{related_at, between_at, during_at}
+use Rattle.gm_ecql.specs.Reader.{Reader, constant_at, text_at, members_at, list_at, asked_at}
+use Rattle.gm_ecql.specs.Reader.{test_at, related_at, between_at}
 use Rattle.gm_ecql.specs.Test.{Written, of_text, of_number, of_instant, of_truth, Sides, Question}
 use Rattle.gm_ecql.specs.Test.{in_box, related, compared, between, like, one_of, null, during}
 use Rattle.gm_ecql.specs.Test.{timed, Trial, include, exclude, ids, named}
-use Rattle.gm_ecql.specs.Token.{Seen, a_keyword, a_name, a_text, an_instant, a_number, a_symbol}
+use Rattle.gm_ecql.specs.Token.{Seen, a_keyword, a_name, a_text, an_instant, a_symbol}
 use Rattle.gm_ecql.proofs.Sound.{chosen}
 
 pub constant_found : (w : Written) (rest : List Seen)

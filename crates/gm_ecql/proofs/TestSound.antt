@@ -1,11 +1,8 @@
 -- A test that is read is written there.
-use Rattle.std.proofs.Common.{◌≡◌, ℕ, zero, suc, ◌+◌, ◌<◌, ◌≤◌, Bool, true, false, ◌==◌, cond, List}
-use Rattle.std.proofs.Common.{[], ◌∷◌, ◌++◌, length, take, drop, Option, Some, None, option_map}
-use Rattle.std.proofs.Common.{refl, sym, ◌∙◌, ap, subst, arith, append_assoc, append-nil}
-use Rattle.std.proofs.Common.{length-append, ◌⊎◌, inl, inr}
-use Rattle.std.specs.Prelude.{ℤ}
-use Rattle.gm_base.proofs.Options.{same_some}
-use Rattle.gm_base.proofs.Options.{no_some}
+use Rattle.std.proofs.Common.{◌≡◌, ℕ, zero, suc, Bool, true, false, ◌==◌, cond, List, [], ◌∷◌, ◌++◌}
+use Rattle.std.proofs.Common.{length, take, drop, Option, Some, None, option_map, refl, sym, ◌∙◌}
+use Rattle.std.proofs.Common.{ap, subst, append_assoc, inl, inr}
+use Rattle.gm_base.proofs.Options.{same_some, no_some}
 use Rattle.gm_filter.specs.declared.filter.Op.{Op}
 use Rattle.gm_ecql.specs.declared.keyword.Keyword.TheVariants as keyword
 use Rattle.gm_ecql.specs.declared.token.Symbol.TheVariants as symbol
@@ -16,14 +13,13 @@ use Rattle.gm_ecql.specs.Grammar.{in_brackets_tokens, op_symbol, relation_word, 
 use Rattle.gm_ecql.specs.Grammar.{not_tokens, system_tokens, question_tokens, test_tokens}
 use Rattle.gm_ecql.specs.Grammar.{IsGeometryPiece, IsTest}
 use Rattle.gm_ecql.specs.Limits.{depth_behind}
-use Rattle.gm_ecql.specs.Reader.{Reader, ◌>>=◌, or_else, after_keyword, after_symbol, name_at}
-use Rattle.gm_ecql.specs.Reader.{text_at, number_at, instant_at, constant_at, separator_at}
-use Rattle.gm_ecql.specs.Reader.{number_then_comma, name_then_comma, corners_at, system_behind}
-use Rattle.gm_ecql.specs.Reader.{system_at, bbox_at, relation_at, related_at, list_at, op_at}
-use Rattle.gm_ecql.specs.Reader.{compared_at, not_at, between_at, like_at, null_at, during_at}
-use Rattle.gm_ecql.specs.Reader.{timing_at, timed_at, one_of_at, negatable_at, asked_at}
-use Rattle.gm_ecql.specs.Reader.{lone_test_at, test_at}
-use Rattle.gm_ecql.specs.Test.{Written, Sides, Question, in_box, related, compared, between, like}
+use Rattle.gm_ecql.specs.Reader.{after_keyword, after_symbol, name_at, text_at, number_at}
+use Rattle.gm_ecql.specs.Reader.{instant_at, constant_at, separator_at, number_then_comma}
+use Rattle.gm_ecql.specs.Reader.{name_then_comma, corners_at, system_behind, system_at, bbox_at}
+use Rattle.gm_ecql.specs.Reader.{relation_at, related_at, list_at, op_at, compared_at, not_at}
+use Rattle.gm_ecql.specs.Reader.{between_at, like_at, null_at, during_at, timing_at, timed_at}
+use Rattle.gm_ecql.specs.Reader.{one_of_at, negatable_at, asked_at, lone_test_at, test_at}
+use Rattle.gm_ecql.specs.Test.{Sides, Question, in_box, related, compared, between, like}
 use Rattle.gm_ecql.specs.Test.{one_of, null, during, timed, Trial, include, exclude, ids, named}
 use Rattle.gm_ecql.specs.Token.{Seen, a_keyword, a_name, a_text, an_instant, a_number, a_symbol}
 use Rattle.gm_ecql.proofs.Readers.{keyword_first, symbol_first, name_first, text_first}

@@ -1,12 +1,11 @@
 -- The parts of a test's reading.
-use Rattle.std.proofs.Common.{◌≡◌, ℕ, zero, suc, ◌+◌, ◌≤◌, ◌<◌, List, [], ◌∷◌, ◌++◌, length, Option}
-use Rattle.std.proofs.Common.{Some, None, option_map, Result, Ok, Err, refl, sym, ◌∙◌, ap, subst}
-use Rattle.std.proofs.Common.{arith, length-append}
+use Rattle.std.proofs.Common.{◌≡◌, ℕ, ◌≤◌, ◌<◌, List, ◌++◌, length, Option, Some, None, option_map}
+use Rattle.std.proofs.Common.{refl, sym, ap, arith, length-append}
 use Rattle.std.specs.Prelude.{ok_or, IfOk}
 use Rattle.gm_ecql.specs.declared.halt.Halt.{Halt}
 use Rattle.gm_ecql.specs.declared.halt.Halt.TheVariants as halt
 use Rattle.gm_ecql.specs.declared.keyword.Keyword.TheVariants as keyword
-use Rattle.gm_ecql.specs.Grammar.{test_tokens, question_tokens}
+use Rattle.gm_ecql.specs.Grammar.{test_tokens}
 use Rattle.gm_ecql.specs.Halt.{Gives, Halts}
 use Rattle.gm_ecql.specs.Reader.{after_keyword, name_at, texts_at, asked_at, lone_test_at, test_at}
 use Rattle.gm_ecql.specs.Test.{Question, Trial, named, ids, include, exclude, in_box, related}

@@ -8,10 +8,8 @@ use Rattle.gm_filter.specs.declared.filter.Filter.{Filter}
 use Rattle.gm_filter.specs.declared.filter.Filter.TheVariants as variant
 use Rattle.gm_filter.specs.declared.filter.Filter.TheOpen as open_filter
 use Rattle.gm_filter.specs.declared.filter.Filter.TheFolds.{fold-roll-Filter}
-use Rattle.std.specs.declared.boxed.Box.{Box}
-use Rattle.std.specs.declared.alloc.Global.{Global}
 use Rattle.gm_geom.specs.declared.geometry.Geometry.{Geometry}
-use Rattle.gm_filter.specs.Tree.{Tree, Trees, tree, negated, intersects, layer}
+use Rattle.gm_filter.specs.Tree.{Tree, Trees, tree, intersects, layer}
 use Rattle.gm_ecql.specs.declared.halt.Halt.{Halt}
 use Rattle.gm_ecql.specs.declared.halt.Halt.TheVariants as halt
 use Rattle.gm_ecql.specs.declared.keyword.Keyword.{Keyword}
@@ -21,11 +19,10 @@ use Rattle.gm_ecql.specs.declared.token.Symbol.TheVariants as symbol
 use Rattle.gm_ecql.specs.Grammar.{Members, negated_of, grouped}
 use Rattle.gm_ecql.specs.Halt.{Gives, Halts}
 use Rattle.gm_ecql.specs.Judging.{Judged}
-use Rattle.gm_ecql.specs.Parser.{judged_at, closed, factor_step, filter_with, factor_at, chain}
+use Rattle.gm_ecql.specs.Parser.{judged_at, closed, filter_with, factor_at, chain}
 use Rattle.gm_ecql.specs.Parser.{more, members_with}
-use Rattle.gm_ecql.specs.Reader.{Reader, ◌>>=◌, or_else, after_keyword, after_symbol, test_at}
-use Rattle.gm_ecql.specs.Reader.{name_at}
-use Rattle.gm_ecql.specs.Token.{Seen, seen, seen_all}
+use Rattle.gm_ecql.specs.Reader.{Reader, ◌>>=◌, after_keyword, after_symbol, test_at}
+use Rattle.gm_ecql.specs.Token.{Seen, seen_all}
 use Rattle.gm_ecql.proofs.Pending.{Pending, pending_fails}
 
 pub halts_then : {A B : Type 0} (f : A → Option B) (o : Option A) (e : Halt) → Halts o e

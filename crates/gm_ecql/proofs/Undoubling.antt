@@ -1,15 +1,12 @@
 -- Quotes that were written twice are dropped from the characters of a text as from its bytes.
-use Rattle.std.proofs.Common.{◌≡◌, ℕ, zero, suc, ◌<◌, Bool, true, false, ◌&&◌, ◌==◌, cond, List, []}
+use Rattle.std.proofs.Common.{◌≡◌, ℕ, zero, suc, ◌<◌, Bool, true, false, ◌==◌, cond, List, []}
 use Rattle.std.proofs.Common.{◌∷◌, ◌++◌, length, get_or, encode_utf8, encode_utf8_all, IsUtf8}
 use Rattle.std.proofs.Common.{chars, refl, sym, ap, ◌∙◌, subst, arith, eqb-true, append-nil}
-use Rattle.std.proofs.Common.{append_assoc}
 use Rattle.std.specs.Prelude.{⊤}
 use Rattle.std.specs.Str.{all_scalars}
-use Rattle.std.specs.Char.{IsScalar, len_utf8}
 use Rattle.std.proofs.lemmas.Str.{inside_one, length-encode, len_utf8_bounds, encodes-chars}
 use Rattle.std.proofs.lemmas.Str.{encode_ascii}
-use Rattle.gm_base.proofs.Booleans.{both_of}
-use Rattle.gm_base.proofs.Booleans.{not_both, both_from}
+use Rattle.gm_base.proofs.Booleans.{both_of, not_both, both_from}
 use Rattle.gm_ecql.specs.Token.{doubled, undoubled, undoubled_from}
 use Rattle.gm_ecql.proofs.Sound.{undoubled_doubled}
 

@@ -1,7 +1,7 @@
 -- Whole numbers as they are parsed.
-use Rattle.std.proofs.Common.{◌≡◌, ◌==◌, ◌<◌, ◌≤◌, ◌∷◌, ◌∙◌, [], ℕ, ℤ, pos, negsuc, suc, zero, List}
+use Rattle.std.proofs.Common.{◌≡◌, ◌<◌, ◌≤◌, ◌∷◌, ◌∙◌, [], ℕ, ℤ, pos, negsuc, List}
 use Rattle.std.proofs.Common.{Some, None, Option, Ok, Err, Result, length, refl, sym, ap, subst}
-use Rattle.std.proofs.Common.{true, false, inl, inr, arith}
+use Rattle.std.proofs.Common.{true, inl, inr, arith}
 use Rattle.std.specs.Prelude.{◌&&◌, ◌^◌, nat_le}
 use Rattle.std.specs.List.{list_all}
 use Rattle.std.specs.Char.{is_ascii_digit}
@@ -15,8 +15,7 @@ use Rattle.std.proofs.lemmas.Bool.{le-leb}
 use Rattle.std.proofs.lemmas.Fmt.{parse-signed_decimal}
 use Rattle.std.proofs.lemmas.Str.Parse.{IsNumeralModel, numerals_by_value, tells_all_ascii_digits}
 use lib.Signed.{mag}
-use mir.Syntax.{Width}
-use mir.Val.{to_z, of_z, hbits}
+use mir.Val.{to_z, of_z}
 use Rattle.std.specs.Int.{w64}
 use Rattle.std.proofs.lemmas.Int.{to_z-of_z}
 use Rattle.gm_feature.specs.Value.{is_below}

@@ -1,5 +1,5 @@
 -- The grammar: each way to write a filter or a change, its tokens, and what it stands for.
-use Rattle.std.specs.Prelude.{◌≡◌, ◌<◌, ℕ, Bool, true, false, List, [], ◌∷◌, ◌++◌, length, ℤ}
+use Rattle.std.specs.Prelude.{◌≡◌, ◌<◌, ℕ, Bool, true, false, List, [], ◌∷◌, ◌++◌, length}
 use Rattle.std.specs.Prelude.{Option, Some, None, option_map}
 use Rattle.gm_types.specs.Specification.{Specification}
 use Rattle.gm_filter.specs.declared.filter.Op.{Op}
@@ -15,7 +15,7 @@ use Rattle.gm_ecql.specs.declared.test.Timing.{Timing}
 use Rattle.gm_ecql.specs.declared.test.Timing.TheVariants as timing
 use Rattle.gm_ecql.specs.Geometry.{piece_at}
 use Rattle.gm_ecql.specs.Judging.{NameFaults, Judged, first_faults, judged}
-use Rattle.gm_ecql.specs.Test.{Written, of_text, of_number, of_instant, of_truth, Sides, Question}
+use Rattle.gm_ecql.specs.Test.{Written, of_text, of_number, of_instant, of_truth, Question}
 use Rattle.gm_ecql.specs.Test.{in_box, related, compared, between, like, one_of, null, during}
 use Rattle.gm_ecql.specs.Test.{timed, Trial, include, exclude, ids, named}
 use Rattle.gm_ecql.specs.Token.{Seen, a_keyword, a_name, a_text, an_instant, a_number, a_symbol}

@@ -1,5 +1,5 @@
 -- What a test that is written asks of a type: the filter that it stands for, and its first faults.
-use Rattle.std.specs.Prelude.{ℕ, ◌+◌, ◌*◌, ◌^◌, ◌&&◌, ◌==◌, Bool, true, false, nat_le}
+use Rattle.std.specs.Prelude.{ℕ, ◌^◌, ◌&&◌, Bool, true, false, nat_le}
 use Rattle.std.specs.Prelude.{if◌then◌else◌, List, [], ◌∷◌, length, codes, ℤ, Option, Some, None}
 use Rattle.std.specs.Prelude.{Result, Ok, Err, option_map, is_some}
 use Rattle.std.specs.List.{list_all}

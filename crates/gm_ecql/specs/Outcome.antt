@@ -1,5 +1,5 @@
 -- What reading answers, as functions of the text.
-use Rattle.std.specs.Prelude.{◌≡◌, ℕ, zero, suc, Bool, true, false, if◌then◌else◌, List, [], ◌∷◌}
+use Rattle.std.specs.Prelude.{◌≡◌, ℕ, zero, suc, Bool, true, if◌then◌else◌, List, [], ◌∷◌}
 use Rattle.std.specs.Prelude.{length, take, Option, Some, None, option_map, Result, Ok, Err}
 use Rattle.std.specs.List.{prefix_len}
 use Rattle.gm_types.specs.declared.kind.Kind.{Kind}
@@ -11,7 +11,7 @@ use Rattle.gm_ecql.specs.declared.change.Change.{Change}
 use Rattle.gm_ecql.specs.declared.fault.FilterFault.{FilterFault}
 use Rattle.gm_ecql.specs.declared.fault.FilterFault.TheVariants as fault
 use Rattle.gm_ecql.specs.Change.{JudgedChange, change_document}
-use Rattle.gm_ecql.specs.Judging.{NameFaults, Judged}
+use Rattle.gm_ecql.specs.Judging.{NameFaults}
 use Rattle.gm_ecql.specs.Limits.{are_within, are_numbers_apart}
 use Rattle.gm_ecql.specs.Parser.{document}
 use Rattle.gm_ecql.specs.Scanner.{Found, token_at, skip_blanks}

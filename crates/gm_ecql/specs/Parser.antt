@@ -1,6 +1,5 @@
 -- Filters at the front of tokens, step by step as the code goes.
-use Rattle.std.specs.Prelude.{ℕ, zero, suc, List, [], ◌∷◌, ◌++◌, length, Option, Some, None}
-use Rattle.std.specs.Prelude.{option_map}
+use Rattle.std.specs.Prelude.{ℕ, zero, suc, List, [], ◌∷◌, length, Option, Some, None, option_map}
 use Rattle.gm_types.specs.Specification.{Specification}
 use Rattle.gm_filter.specs.Tree.{Tree, Trees, all, any}
 use Rattle.gm_ecql.specs.declared.keyword.Keyword.{Keyword}

@@ -1,6 +1,6 @@
 -- The printed filter: keywords in capitals, single blanks between words, a comma and a blank
 -- between members of lists, and brackets round an And or Or that is a member of another filter.
-use Rattle.std.specs.Prelude.{ℕ, ◌==◌, Bool, true, false, if◌then◌else◌, List, [], ◌∷◌, ◌++◌, codes}
+use Rattle.std.specs.Prelude.{ℕ, Bool, true, false, if◌then◌else◌, List, [], ◌∷◌, ◌++◌, codes}
 use Rattle.std.specs.Prelude.{ℤ, Option, Some, None}
 use Rattle.std.specs.Fmt.{signed_decimal}
 use Rattle.gm_base.specs.Ascii.{double_quote, single_quote}
@@ -10,7 +10,6 @@ use Rattle.gm_geom.specs.declared.point.Point.{Point}
 use Rattle.gm_geom.specs.Number.{fixed_text}
 use Rattle.gm_wkt.specs.Printer as wkt
 use Rattle.gm_calendar.specs.Spelling.{instant_text}
-use Rattle.gm_types.specs.declared.attribute.Attribute.{Attribute}
 use Rattle.gm_types.specs.Specification.{Specification, names_of}
 use Rattle.std.specs.Prelude.{slice_get}
 use Rattle.gm_filter.specs.declared.filter.Op.{Op}

@@ -1,8 +1,7 @@
 -- The tokens of a text, and how they are spelled: each piece ends where its rule says, and blanks
 -- between tokens are free.
-use Rattle.std.specs.Prelude.{◌≡◌, ℕ, ◌<◌, Bool, true, false, not, ◌==◌, ◌||◌, ◌&&◌, if◌then◌else◌}
-use Rattle.std.specs.Prelude.{List, [], ◌∷◌, ◌++◌, ◌⊎◌, length, take, map, ℤ, Option, Some, None}
-use Rattle.std.specs.Prelude.{IsSome, IsUtf8}
+use Rattle.std.specs.Prelude.{◌≡◌, ℕ, ◌<◌, Bool, true, false, not, ◌==◌, ◌||◌, if◌then◌else◌, List}
+use Rattle.std.specs.Prelude.{[], ◌∷◌, ◌++◌, ◌⊎◌, length, take, map, ℤ, Some, None, IsSome, IsUtf8}
 use Rattle.std.specs.List.{list_all}
 use Rattle.std.specs.Char.{is_ascii_digit, is_ascii_alphabetic, is_ascii_alphanumeric}
 use Rattle.gm_base.specs.Ascii.{closing, comma, decimal_point, double_quote, equals_sign}

@@ -1,39 +1,34 @@
 -- What a change makes of a state and of its rows.
-use Rattle.std.proofs.Common.{◌≡◌, ◌<◌, ℕ, zero, suc, ◌+◌, Bool, true, false, true≢false, cond, not}
-use Rattle.std.proofs.Common.{◌&&◌, ◌||◌, ◌⊎◌, inl, inr, ⊎_elim, List, [], ◌∷◌, ◌++◌, append-nil}
+use Rattle.std.proofs.Common.{◌≡◌, ℕ, zero, suc, Bool, true, false, true≢false, cond, not}
+use Rattle.std.proofs.Common.{◌&&◌, ◌||◌, ◌⊎◌, inl, inr, ⊎_elim, List, [], ◌∷◌, ◌++◌}
 use Rattle.std.proofs.Common.{map, filter, length, Option, Some, None, refl, sym, ap, subst, ◌∙◌}
-use Rattle.std.specs.Prelude.{slice_get, IsTrue, if◌then◌else◌}
+use Rattle.std.specs.Prelude.{slice_get, if◌then◌else◌}
 use Rattle.std.specs.Option.{ForSome}
-use Rattle.std.specs.List.{flat_map, list_any, list_all}
+use Rattle.std.specs.List.{flat_map}
 use Rattle.std.specs.Ordering.{nat_cmp}
 use Rattle.std.specs.Cmp.Lexicographic.{slice_cmp, nat_list_cmp_total}
 use Rattle.std.proofs.lemmas.Bool.{cases_eq}
 use Rattle.std.specs.FinMap as features
 use Rattle.std.specs.FinMap.{get-insert, get-remove, get-empty, len-empty, len-entries}
 use Rattle.gm_base.proofs.Options.{same_some, none_some}
-use Rattle.gm_base.proofs.Booleans.{true_or_false, and_false, and_true, no_length}
-use Rattle.gm_table.specs.declared.row.Row.{Row}
-use Rattle.gm_table.specs.Batch.{has_key, are_distinct, put_at, applied_at}
-use Rattle.gm_table.specs.Row.{key_of as key_of_row}
+use Rattle.gm_base.proofs.Booleans.{and_false, and_true, no_length}
+use Rattle.gm_table.specs.Batch.{has_key, put_at, applied_at}
 use Rattle.gm_table.specs.Sorted.{at_key}
-use Rattle.gm_types.specs.declared.index.IndexKind.{IndexKind}
-use Rattle.gm_types.specs.declared.index.IndexKind.TheVariants.{Id, Z2, Z3, Xz2, Xz3, Attr}
 use Rattle.gm_types.specs.FeatureType.{IsType}
 use Rattle.gm_types.specs.Specification.{Specification}
 use Rattle.gm_types.specs.Words.{are_distinct as are_apart}
 use Rattle.gm_feature.specs.declared.feature.Feature.{Feature}
-use Rattle.gm_feature.specs.Feature.{Fits}
 use Rattle.gm_feature.specs.Writer.{feature_bytes}
-use Rattle.gm_keys.specs.Key.{key_of, keys_of}
-use Rattle.gm_engine_rows.specs.State.{Features, Collection, State, IsState, IsPlaced, IsHeld}
+use Rattle.gm_keys.specs.Key.{keys_of}
+use Rattle.gm_engine_rows.specs.State.{Features, State, IsState, IsPlaced, IsHeld}
 use Rattle.gm_engine_rows.specs.State.{types_of, type_at, features_of, feature_at, set_at}
 use Rattle.gm_engine_rows.specs.State.{changed_in, with_type}
 use Rattle.gm_engine_rows.specs.Rows.{IsRow, rows_of_feature, rows_of_type, all_rows, row_map}
 use Rattle.gm_engine_rows.specs.Rows.{rows_of}
 use Rattle.gm_engine_rows.specs.Change.{keys_at, rows_with, removes_of, puts_of}
-use Rattle.gm_engine_rows.proofs.Members.{In, is_key, same_key, key_itself, is_same, not_key}
+use Rattle.gm_engine_rows.proofs.Members.{In, is_key, same_key, key_itself, not_key}
 use Rattle.gm_engine_rows.proofs.Members.{same_or_not, in_keys, has_in}
-use Rattle.gm_engine_rows.proofs.RowLaws.{Keys, Entries, key_out, key_in, SameOwner, same_owner}
+use Rattle.gm_engine_rows.proofs.RowLaws.{Keys, Entries, key_out, key_in, same_owner}
 use Rattle.gm_engine_rows.proofs.RowLaws.{stands_out, stands_in}
 
 -- ---- the state after a change

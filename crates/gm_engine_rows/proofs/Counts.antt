@@ -1,27 +1,24 @@
 -- How many rows a state has after a change.
-use Rattle.std.proofs.Common.{◌≡◌, ℕ, zero, suc, ◌+◌, Bool, true, false, true≢false, cond, ◌&&◌}
+use Rattle.std.proofs.Common.{◌≡◌, ℕ, ◌+◌, Bool, true, false, true≢false, cond}
 use Rattle.std.proofs.Common.{◌||◌, inl, inr, List, [], ◌∷◌, length, Option, Some, None, refl, sym}
 use Rattle.std.proofs.Common.{ap, subst, ◌∙◌, arith}
 use Rattle.std.specs.Prelude.{slice_get, is_some}
 use Rattle.std.specs.Option.{ForSome}
-use Rattle.std.specs.Ordering.{nat_cmp}
-use Rattle.std.specs.Cmp.Lexicographic.{slice_cmp, nat_list_cmp_total}
+use Rattle.std.specs.Cmp.Lexicographic.{nat_list_cmp_total}
 use Rattle.std.specs.FinMap as features
 use Rattle.std.specs.FinMap.{get-insert, get-remove, len-insert, len-entries, same_map}
 use Rattle.std.specs.FinMap.{nat_cmp-IsAntisymmetric, slice_cmp-IsAntisymmetric}
 use Rattle.gm_base.proofs.Booleans.{both_of, false_of_not}
 use Rattle.gm_table.specs.Batch.{has_key, are_distinct}
 use Rattle.gm_table.specs.Sorted.{RowMap, at_key}
-use Rattle.gm_types.specs.FeatureType.{IsType}
 use Rattle.gm_types.specs.Specification.{Specification}
 use Rattle.gm_feature.specs.declared.feature.Feature.{Feature}
 use Rattle.gm_feature.specs.Feature.{Fits}
 use Rattle.gm_feature.specs.Writer.{feature_bytes}
-use Rattle.gm_engine_rows.specs.State.{State, IsState, IsHeld, types_of, type_at, feature_at}
-use Rattle.gm_engine_rows.specs.State.{changed_in}
+use Rattle.gm_engine_rows.specs.State.{State, IsState, IsHeld, type_at, feature_at, changed_in}
 use Rattle.gm_engine_rows.specs.Rows.{row_map, rows_of}
-use Rattle.gm_engine_rows.specs.Change.{keys_at, removes_of, puts_of}
-use Rattle.gm_engine_rows.proofs.Members.{In, is_key, same_key, in_keys, has_in, not_key}
+use Rattle.gm_engine_rows.specs.Change.{keys_at}
+use Rattle.gm_engine_rows.proofs.Members.{In, is_key, in_keys, has_in, not_key}
 use Rattle.gm_engine_rows.proofs.RowLaws.{Keys, Entries, stands_in}
 use Rattle.gm_engine_rows.proofs.Changes.{Step, same_types, here, elsewhere, keeps_state, made_at}
 use Rattle.gm_engine_rows.proofs.Changes.{made_is, its_row, gone, follows}

@@ -1,8 +1,7 @@
 -- The keys of a feature, and of a change, are distinct.
 use Rattle.std.proofs.Common.{◌≡◌, ◌≤◌, ℕ, zero, suc, ◌+◌, Bool, true, false, true≢false, cond, not}
-use Rattle.std.proofs.Common.{◌&&◌, ◌||◌, ◌⊎◌, inl, inr, ⊎_elim, List, [], ◌∷◌, ◌++◌, map, filter}
-use Rattle.std.proofs.Common.{filter_map, length, Option, Some, None, refl, sym, ap, subst, ◌∙◌}
-use Rattle.std.proofs.Common.{arith}
+use Rattle.std.proofs.Common.{◌⊎◌, inl, inr, ⊎_elim, List, [], ◌∷◌, ◌++◌, map, filter, filter_map}
+use Rattle.std.proofs.Common.{length, Option, Some, None, refl, sym, ap, subst, ◌∙◌, arith}
 use Rattle.std.specs.Option.{ForSome}
 use Rattle.std.specs.List.{cons_option}
 use Rattle.gm_base.proofs.Booleans.{false_of_never, both_of, both_from, false_of_not}
@@ -18,7 +17,7 @@ use Rattle.gm_feature.specs.declared.feature.Feature.{Feature}
 use Rattle.gm_feature.specs.Feature.{Fits}
 use Rattle.gm_keys.specs.Key.{index_number, key_of, keys_of}
 use Rattle.gm_engine_rows.specs.Change.{keys_at, rows_with, removes_of, puts_of}
-use Rattle.gm_engine_rows.proofs.Members.{In, is_key, in_keys, has_in, kept_out}
+use Rattle.gm_engine_rows.proofs.Members.{In, in_keys, has_in, kept_out}
 use Rattle.gm_engine_rows.proofs.RowLaws.{Keys}
 
 in_append : {A : Type 0} (x : A) (xs ys : List A) → In x (xs ++ ys) → In x xs ⊎ In x ys

@@ -1,9 +1,8 @@
 -- What several changes at once make of a state and of its rows.
-use Rattle.std.proofs.Common.{◌≡◌, ◌<◌, ℕ, zero, suc, ◌+◌, Bool, true, false, true≢false, cond, not}
-use Rattle.std.proofs.Common.{◌&&◌, ◌||◌, ◌⊎◌, inl, inr, ⊎_elim, List, [], ◌∷◌, ◌++◌, map, filter}
+use Rattle.std.proofs.Common.{◌≡◌, ◌<◌, ℕ, suc, ◌+◌, Bool, true, false, true≢false, cond, not}
+use Rattle.std.proofs.Common.{◌||◌, ◌⊎◌, inl, inr, ⊎_elim, List, [], ◌∷◌, ◌++◌, map}
 use Rattle.std.proofs.Common.{length, Option, Some, None, refl, sym, ap, subst, ◌∙◌, arith}
 use Rattle.std.specs.Prelude.{All, slice_get, if◌then◌else◌}
-use Rattle.std.specs.Option.{ForSome}
 use Rattle.std.specs.List.{flat_map}
 use Rattle.gm_base.proofs.Booleans.{false_of_never, both_of, false_of_not}
 use Rattle.gm_base.proofs.Options.{same_some}
@@ -17,8 +16,7 @@ use Rattle.gm_feature.specs.declared.feature.Feature.{Feature}
 use Rattle.gm_feature.specs.Feature.{Fits}
 use Rattle.gm_keys.specs.Key.{keys_of}
 use Rattle.gm_engine_rows.specs.declared.exchange.Exchange.{Exchange}
-use Rattle.gm_engine_rows.specs.State.{State, IsState, IsHeld, types_of, type_at, feature_at}
-use Rattle.gm_engine_rows.specs.State.{changed_in}
+use Rattle.gm_engine_rows.specs.State.{State, IsState, types_of, type_at, feature_at, changed_in}
 use Rattle.gm_engine_rows.specs.Rows.{rows_of}
 use Rattle.gm_engine_rows.specs.Change.{keys_at, removes_of, puts_of}
 use Rattle.gm_engine_rows.specs.Exchange.{owners_of, removes_of_all, puts_of_all, old_keys}

@@ -1,18 +1,15 @@
 -- What stands at each key of the rows of a state.
-use Rattle.std.proofs.Common.{◌≡◌, ◌<◌, ℕ, zero, suc, ◌+◌, Bool, true, false, true≢false, ◌&&◌, ◌⊎◌}
-use Rattle.std.proofs.Common.{inl, inr, ⊎_elim, List, [], ◌∷◌, ◌++◌, map, length, Option, Some}
-use Rattle.std.proofs.Common.{None, refl, sym, ap, subst, ◌∙◌, arith}
+use Rattle.std.proofs.Common.{◌≡◌, ◌<◌, ℕ, zero, suc, ◌+◌, true, true≢false, inl, inr, ⊎_elim, List}
+use Rattle.std.proofs.Common.{[], ◌∷◌, length, Some, refl, sym, ap, subst, ◌∙◌, arith}
 use Rattle.std.specs.Prelude.{slice_get}
-use Rattle.std.specs.List.{flat_map}
 use Rattle.std.specs.Ordering.{nat_cmp}
 use Rattle.std.specs.Cmp.Lexicographic.{slice_cmp, nat_list_cmp_total}
 use Rattle.std.specs.FinMap as features
 use Rattle.std.specs.FinMap.{find, get-entries, get-from_entries, entries_sorted}
-use Rattle.gm_base.proofs.Options.{same_some, none_some}
+use Rattle.gm_base.proofs.Options.{same_some}
 use Rattle.gm_base.proofs.Lists.{within_list}
 use Rattle.gm_base.proofs.Booleans.{both_of}
-use Rattle.gm_table.specs.Sorted.{Rows, RowMap, at_key}
-use Rattle.gm_types.specs.declared.attribute.Attribute.{Attribute}
+use Rattle.gm_table.specs.Sorted.{RowMap, at_key}
 use Rattle.gm_types.specs.declared.index.IndexKind.{IndexKind}
 use Rattle.gm_types.specs.declared.index.IndexKind.TheVariants.{Id, Z2, Z3, Xz2, Xz3, Attr}
 use Rattle.gm_types.specs.FeatureType.{IsType}
@@ -23,7 +20,7 @@ use Rattle.gm_feature.specs.declared.feature.Feature.{Feature}
 use Rattle.gm_feature.specs.Feature.{Fits}
 use Rattle.gm_feature.specs.Writer.{feature_bytes}
 use Rattle.gm_keys.specs.Key.{key_of, keys_of}
-use Rattle.gm_engine_rows.specs.State.{Features, Collection, State, IsState, types_of, type_at}
+use Rattle.gm_engine_rows.specs.State.{Features, State, IsState, types_of, type_at}
 use Rattle.gm_engine_rows.specs.State.{features_of, feature_at}
 use Rattle.gm_engine_rows.specs.Rows.{IsRow, rows_of_feature, rows_of_type, all_rows, row_map}
 use Rattle.gm_engine_rows.specs.Rows.{rows_of}

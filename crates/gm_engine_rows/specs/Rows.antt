@@ -1,6 +1,6 @@
 -- The rows of a state: all pairs of a key and the feature's bytes, over all types, features and
 -- enabled indexes.
-use Rattle.std.specs.Prelude.{◌≡◌, ℕ, true, List, map, Option, Some}
+use Rattle.std.specs.Prelude.{◌≡◌, ℕ, true, List, map, Some}
 use Rattle.std.specs.List.{flat_map}
 use Rattle.std.specs.FinMap as features
 use Rattle.gm_table.specs.Sorted.{Rows, RowMap}

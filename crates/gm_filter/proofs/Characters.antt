@@ -1,13 +1,13 @@
 -- LIKE over bytes is LIKE over characters.
-use Rattle.std.proofs.Common.{◌≡◌, ◌≢◌, ℕ, ◌+◌, ◌/◌, ◌%◌, ◌<◌, ◌≤◌, Bool, not, ◌&&◌, ◌||◌, true}
+use Rattle.std.proofs.Common.{◌≡◌, ◌≢◌, ℕ, ◌+◌, ◌/◌, ◌<◌, ◌≤◌, Bool, ◌&&◌, ◌||◌, true}
 use Rattle.std.proofs.Common.{false, cond, eqb, ltb, List, [], ◌∷◌, ◌++◌, refl, sym, ap, ◌∙◌, subst}
-use Rattle.std.proofs.Common.{inl, inr, ⊎_elim, arith, lit<, eq-eqb, ne_eqb, append_assoc}
-use Rattle.std.proofs.lemmas.Bool.{cases_eq, and_parts, eqb-true, cases_Bool, ltb-true, ltb-false}
-use Rattle.std.proofs.lemmas.Str.{encode_same, encode_ascii, encodes-chars, scalars-chars}
+use Rattle.std.proofs.Common.{inl, inr, arith, lit<, eq-eqb, ne_eqb}
+use Rattle.std.proofs.lemmas.Bool.{cases_eq, and_parts, eqb-true, cases_Bool, ltb-true}
+use Rattle.std.proofs.lemmas.Str.{encode_same, encode_ascii, encodes-chars}
 use Rattle.std.specs.List.{AllByRecursion}
 use Rattle.std.specs.Str.{IsUtf8, chars}
 use lib.Utf8.{encode, encodes, next}
-use Rattle.gm_filter.specs.Like.{is_empty, some_suffix, behind_first, fits, is_like}
+use Rattle.gm_filter.specs.Like.{some_suffix, behind_first, fits, is_like}
 use Rattle.gm_filter.specs.Wildcards.{is_continuation, past_continuation, some_suffix_from, matches}
 
 abbrev pub IsPlain : ℕ → Type 0

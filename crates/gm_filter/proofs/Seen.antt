@@ -1,13 +1,10 @@
 -- What is told of values that are seen in place.
-use Rattle.std.proofs.Common.{◌≡◌, ◌↔◌, inl, inr, Bool, true, false, ◌≤ℤ◌, List, [], ◌∷◌, ℕ, refl}
-use Rattle.std.proofs.Common.{sym, ◌∙◌, arith, true≢false}
-use Rattle.std.proofs.lemmas.Bool.{and_parts, and_from, cases_Bool}
-use Rattle.std.proofs.lemmas.Int.{ints}
+use Rattle.std.proofs.Common.{◌≡◌, ◌↔◌, Bool, true, false, List, [], ◌∷◌, ℕ, refl, sym, ◌∙◌}
+use Rattle.std.proofs.lemmas.Bool.{and_parts, and_from}
 use Rattle.std.proofs.lemmas.Str.{IsUtf8-from_is_utf8}
-use Rattle.std.specs.Prelude.{int_le, ℤ}
+use Rattle.std.specs.Prelude.{int_le}
 use Rattle.std.specs.Str.{IsUtf8, is_utf8}
-use Rattle.gm_base.proofs.Numbers.{le_from}
-use Rattle.gm_base.proofs.Numbers.{le_to}
+use Rattle.gm_base.proofs.Numbers.{le_from, le_to}
 use Rattle.gm_base.proofs.Booleans.{same_tests}
 use Rattle.gm_geom.specs.declared.point.Point.{Point}
 use Rattle.gm_geom.specs.declared.point.Box2.{Box2}
@@ -17,10 +14,9 @@ use Rattle.gm_geom.specs.Extent.{IsInBox}
 use Rattle.gm_shapes.specs.Segment.{lone_box, do_overlap, reaches}
 use Rattle.gm_shapes.specs.Meeting.{do_intersect, box_area}
 use Rattle.gm_feature.specs.declared.value.Value.TheVariants as value
-use Rattle.gm_feature.specs.Stored.{is_point}
 use Rattle.gm_feature.specs.Value.{is_sound, has_text_form}
 use Rattle.gm_filter.specs.declared.filter.Literal.{Literal}
-use Rattle.gm_filter.specs.Truth.{is_one_of, is_within}
+use Rattle.gm_filter.specs.Truth.{is_one_of}
 
 -- ---- answers that are one
 

@@ -1,17 +1,13 @@
 -- What suits a type may be tried on what fits the type.
-use Rattle.std.proofs.Common.{◌≡◌, ℕ, zero, suc, ◌<◌, ◌≤◌, Bool, true, false, ◌&&◌, List, [], ◌∷◌}
-use Rattle.std.proofs.Common.{length, map, get_or, refl, sym, ap, ◌∙◌, Option, Some, None, arith}
-use Rattle.std.proofs.Common.{true≢false}
+use Rattle.std.proofs.Common.{◌≡◌, ℕ, zero, suc, ◌<◌, Bool, true, ◌&&◌, List, [], ◌∷◌, length}
+use Rattle.std.proofs.Common.{get_or, refl, sym, ap, arith, true≢false}
 use Rattle.std.proofs.lemmas.Bool.{and_parts}
-use Rattle.std.proofs.lemmas.Int.{ints}
-use Rattle.std.specs.Prelude.{is_none, int_le, ◌≤ℤ◌, ℤ}
+use Rattle.std.specs.Prelude.{int_le}
 use Rattle.std.specs.List.{slice_get}
 use Rattle.gm_base.proofs.Numbers.{le_from}
 use Rattle.gm_base.proofs.Options.{none_is}
 use Rattle.gm_geom.specs.declared.point.Box2.{Box2}
-use Rattle.gm_geom.specs.declared.geometry.Geometry.{Geometry}
 use Rattle.gm_geom.specs.Validity.{fault_of, is_in_world}
-use Rattle.gm_geom.specs.declared.validity.GeomFault.{GeomFault}
 use Rattle.gm_types.specs.declared.kind.Kind.{Kind}
 use Rattle.gm_types.specs.Specification.{Specification, kinds_of, kind_at}
 use Rattle.gm_feature.specs.declared.value.Value.{Value}
@@ -19,12 +15,11 @@ use Rattle.gm_feature.specs.declared.value.Value.TheVariants as value
 use Rattle.gm_feature.specs.declared.feature.Feature.{Feature}
 use Rattle.gm_feature.specs.Feature.{Fits, values_fit, value_at}
 use Rattle.gm_feature.specs.Value.{value_fits, is_of_kind, is_sound}
-use Rattle.gm_filter.specs.Suitability.{suits, all_suit, Suits, SuitOneType, passes_kind, is_box}
-use Rattle.gm_filter.specs.Suitability.{is_kept}
+use Rattle.gm_filter.specs.Suitability.{suits, all_suit, Suits, passes_kind, is_box, is_kept}
 use Rattle.gm_filter.specs.Suitability.{has_area}
 use Rattle.gm_filter.specs.Tree.{Tree, Trees, include, exclude, negated, all, any, compare, between}
 use Rattle.gm_filter.specs.Tree.{like, one_of, is_null, ids, bbox, intersects, disjoint, within}
-use Rattle.gm_filter.specs.Tree.{during, before, after, tequals, no_trees, tree_and, members_of}
+use Rattle.gm_filter.specs.Tree.{during, before, after, tequals, no_trees, tree_and}
 use Rattle.gm_filter.specs.Trial.{MayTry, MayTryAll, IsKeptValue, IsRisingBox, HasPlace}
 
 pub kind_there : (test : Kind → Bool) (ks : List Kind) (a : ℕ)

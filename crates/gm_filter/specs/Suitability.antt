@@ -1,6 +1,6 @@
 -- Which filters suit a type: what may be tested of an attribute of each kind, and with which
 -- literals.
-use Rattle.std.specs.Prelude.{◌≡◌, ℕ, ◌^◌, Bool, true, false, not, ◌&&◌, nat_le, int_le, ℤ, List}
+use Rattle.std.specs.Prelude.{◌≡◌, ◌^◌, Bool, true, false, ◌&&◌, nat_le, int_le, List}
 use Rattle.std.specs.Prelude.{length, Option, Some, None, is_none}
 use Rattle.std.specs.List.{list_all}
 use Rattle.std.specs.Str.{is_utf8}

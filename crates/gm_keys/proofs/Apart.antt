@@ -1,7 +1,7 @@
 -- Whose a key is.
 use Rattle.std.proofs.Common.{◌≡◌, ◌<◌, ℕ, zero, suc, ◌^◌, ℤ, pos, negsuc, Bool, true, true≢false}
 use Rattle.std.proofs.Common.{T, List, [], ◌∷◌, ◌++◌, append_assoc, length, drop, get_or}
-use Rattle.std.proofs.Common.{FitsSigned, Option, Some, None, option_map, option_and_then, refl}
+use Rattle.std.proofs.Common.{FitsSigned, Option, Some, None, option_map, refl}
 use Rattle.std.proofs.Common.{sym, ap, subst, ◌∙◌, arith}
 use Rattle.std.specs.Prelude.{slice_get}
 use Rattle.std.specs.List.{AllByRecursion, list_all}

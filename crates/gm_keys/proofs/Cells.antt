@@ -1,11 +1,10 @@
 -- Cells of boxes whose corners do not fall.
-use Rattle.std.proofs.Common.{◌≡◌, ◌≤◌, ◌<◌, ℕ, zero, suc, ◌^◌, ℤ, pos, negsuc, ◌+ℤ◌, ◌≤ℤ◌, Bool}
-use Rattle.std.proofs.Common.{◌&&◌, true, false, All, [], ◌∷◌, refl, arith}
+use Rattle.std.proofs.Common.{◌≡◌, ◌≤◌, ◌<◌, ℕ, zero, suc, ◌^◌, ℤ, pos, negsuc, ◌+ℤ◌, ◌≤ℤ◌}
+use Rattle.std.proofs.Common.{true, [], ◌∷◌, refl, arith}
 use Rattle.std.proofs.lemmas.Int.{to_z-of_z, ints}
 use Rattle.std.proofs.lemmas.Grind.{common_steps}
 use mir.Val.{SFits, of_z, to_z}
 use mir.Syntax.{w32}
-use Rattle.gm_base.proofs.Numbers.{two_below, three_below}
 use Rattle.gm_base.proofs.Booleans.{both_of}
 use Rattle.gm_curve.specs.Curve.{IsAtMost}
 use Rattle.gm_curve.specs.Scale.{normal_of}

@@ -1,13 +1,12 @@
 -- Forms and middles of keys.
 use Rattle.std.proofs.Common.{◌≡◌, ◌≤◌, ℕ, ◌-◌, ℤ, IsTrue, Bool, true, false, ◌&&◌, List, ◌++◌}
-use Rattle.std.proofs.Common.{length, take, drop, IsUtf8, Option, Some, None, refl, sym, ap, subst}
+use Rattle.std.proofs.Common.{length, take, drop, IsUtf8, Option, Some, refl, sym, ap, subst}
 use Rattle.std.proofs.Common.{◌∙◌, arith, length-append, append_assoc}
 use Rattle.std.proofs.lemmas.List.{take_at}
 use Rattle.std.proofs.Math.Seq.{drop-append_seam as drop-append}
 use Rattle.std.proofs.lemmas.Str.{is_utf8-from_IsUtf8, IsUtf8-from_is_utf8}
 use Rattle.std.specs.Str.{is_utf8}
 use Rattle.gm_base.proofs.Booleans.{false_of_never}
-use Rattle.gm_base.proofs.Options.{same_some, none_some}
 use Rattle.gm_base.specs.Identifier.{is_identifier, has_identifier_form}
 use Rattle.gm_types.specs.declared.index.IndexKind.{IndexKind}
 use Rattle.gm_types.specs.Index.{has_index}

@@ -1,12 +1,11 @@
 -- Values and boxes of features that fit.
 use Rattle.std.proofs.Common.{◌≡◌, ℕ, zero, suc, ◌≤ℤ◌, ℤ, pos, negsuc, neg_ℤ, ◌≤◌, ◌<◌, Bool, not}
-use Rattle.std.proofs.Common.{◌&&◌, if◌then◌else◌, true, false, List, [], ◌∷◌, get_or, Option, Some}
-use Rattle.std.proofs.Common.{None, is_none, refl, sym, ap, ◌∙◌, arith}
+use Rattle.std.proofs.Common.{if◌then◌else◌, true, false, List, [], ◌∷◌, get_or, Option, Some}
+use Rattle.std.proofs.Common.{None, refl, sym, ap, ◌∙◌, arith}
 use Rattle.std.proofs.lemmas.Int.{ints}
 use Rattle.std.proofs.lemmas.Grind.{common_steps}
 use Rattle.std.specs.List.{list_all}
-use Rattle.gm_base.proofs.Booleans.{both_of}
-use Rattle.gm_base.proofs.Booleans.{both_from}
+use Rattle.gm_base.proofs.Booleans.{both_of, both_from}
 use Rattle.gm_base.proofs.Options.{none_is}
 use Rattle.gm_geom.specs.declared.point.Point.{Point}
 use Rattle.gm_geom.specs.declared.point.Box2.{Box2}

@@ -1,9 +1,9 @@
 -- The order of bytes, for numbers that are written with their highest byte first.
 use Rattle.std.proofs.Common.{◌≡◌, ◌<◌, ◌≤◌, ⊎_elim, ℕ, zero, suc, ◌+◌, ◌*◌, ◌^◌, ◌%◌, ◌/◌, List}
 use Rattle.std.proofs.Common.{[], ◌∷◌, ◌++◌, length, drop, slice_index, refl, sym, ap, ◌∙◌, arith}
-use Rattle.std.proofs.Common.{mod-eq_of_lt, mod-lt, mul-le-mul_right, add-mul, div-one, pow-suc}
+use Rattle.std.proofs.Common.{mod-eq_of_lt, mod-lt, mul-le-mul_right, add-mul, div-one}
 use Rattle.std.proofs.Math.Nat.{one-le-pow}
-use Rattle.std.proofs.lemmas.Nat.{pow-add, mod-pow-add}
+use Rattle.std.proofs.lemmas.Nat.{mod-pow-add}
 use Rattle.std.proofs.lemmas.Bool.{cases_order}
 use Rattle.std.specs.Int.{byte_at}
 use Rattle.std.specs.Ordering.{nat_cmp, ordering_then, ordering_reverse}

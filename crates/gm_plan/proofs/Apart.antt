@@ -1,5 +1,5 @@
 -- No key is inside two of the spans that a query reads.
-use Rattle.std.proofs.Common.{◌≡◌, ℕ, ◌≤◌, List, ◌++◌}
+use Rattle.std.proofs.Common.{ℕ, ◌≤◌}
 use Rattle.gm_table.specs.Apart.{AreApart}
 use Rattle.gm_trees.specs.Z.{z_shape}
 use Rattle.gm_trees.specs.Xz.{xz_shape}

@@ -1,26 +1,18 @@
 -- The spans of ranges of codes and of bins, in one shard and in two.
-use Rattle.std.proofs.Common.{◌≡◌, ℕ, zero, suc, ◌+◌, ◌^◌, ◌<◌, ◌≤◌, Bool, true, false, ◌&&◌}
-use Rattle.std.proofs.Common.{◌==◌, nat_eq, nat_le, List, [], ◌∷◌, ◌++◌, append-nil, append_assoc}
-use Rattle.std.proofs.Common.{map, filter, length, take, All, refl, sym, ap, ◌∙◌, true≢false, ◌⊎◌}
-use Rattle.std.proofs.Common.{inl, inr, Option, Some, None, arith, subst, mod-lt}
-use Rattle.std.specs.Prelude.{if◌then◌else◌, is_some, nat_lt}
+use Rattle.std.proofs.Common.{◌≡◌, ℕ, zero, suc, ◌+◌, ◌<◌, ◌≤◌, Bool, true, false, List, [], ◌∷◌}
+use Rattle.std.proofs.Common.{◌++◌, length, take, All, refl, sym, ap, ◌∙◌, true≢false, Option, Some}
+use Rattle.std.proofs.Common.{None, arith, subst, mod-lt}
 use Rattle.std.specs.Int.{byte_at}
 use Rattle.std.specs.List.{AllByRecursion, flat_map, range_with_len}
-use Rattle.std.proofs.lemmas.Bool.Decides.{nat_tests}
-use Rattle.std.proofs.lemmas.List.Elements.{All-append, All-cons, All-from_recursion}
+use Rattle.std.proofs.lemmas.List.Elements.{All-from_recursion}
 use Rattle.std.specs.Ordering.{nat_cmp, ordering_then, is_le}
-use Rattle.std.specs.Cmp.{nat_cmp_is}
-use Rattle.std.specs.declared.cmp.Ordering.{Ordering}
-use Rattle.std.specs.declared.cmp.Ordering.TheVariants.{Less, Equal, Greater}
 use Rattle.std.specs.Cmp.Lexicographic.{slice_cmp}
 use Rattle.byteorder.specs.Endian.{big_bytes}
 use Rattle.gm_base.proofs.Booleans.{true_of_not}
 use Rattle.gm_base.proofs.Lists.{all_append}
 use Rattle.gm_base.proofs.Numbers.{is_greater}
 use Rattle.gm_base.specs.Spans.{Span}
-use Rattle.gm_lexi.specs.Ends.{after_of, is_before, is_from_to}
-use Rattle.gm_runs.specs.Runs.{AreRunsFrom}
-use Rattle.gm_table.specs.Sorted.{is_within}
+use Rattle.gm_lexi.specs.Ends.{after_of, is_before}
 use Rattle.gm_types.specs.declared.index.IndexKind.{IndexKind}
 use Rattle.gm_types.specs.declared.index.IndexKind.TheVariants.{Id, Z2, Z3, Xz2, Xz3, Attr}
 use Rattle.gm_types.specs.Specification.{Specification}
@@ -28,13 +20,8 @@ use Rattle.gm_keys.specs.Key.{prefix_of, index_number, attribute_number, code_fr
 use Rattle.gm_keys.specs.Key.{bin_code_front}
 use Rattle.gm_bounds.specs.declared.ranges.Range.{Range}
 use Rattle.gm_bounds.specs.declared.ranges.Range.TheVariants as range
-use Rattle.gm_plan.specs.KeyRanges.{code_range, bin_range}
 use Rattle.gm_plan.specs.Spans.{end_of, end_or_none, from_to, span_behind, spans_in}
-use Rattle.gm_plan.proofs.ApartSpans.{C, Excludes, rising, lows, AreExclusive, exclusive_append}
-use Rattle.gm_plan.proofs.ApartSpans.{le_trans}
-use Rattle.gm_plan.proofs.Within.{CodeLaws, AreNarrow, within_is, code_end, bin_end, bin_code_end}
-use Rattle.gm_plan.proofs.Within.{prefix_end}
-
+use Rattle.gm_plan.proofs.ApartSpans.{C, Excludes, rising, AreExclusive, exclusive_append}
 -- what is known of the order of bytes
 pub record ByteLaws : Type 0 where
   pub high : (high other : List ℕ) → All (λ byte. byte < 256) (take (length high) other)

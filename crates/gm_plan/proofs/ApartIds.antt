@@ -1,17 +1,16 @@
 -- The spans of identifiers that are listed in order, each once.
-use Rattle.std.proofs.Common.{◌≡◌, ◌≢◌, ℕ, zero, suc, Bool, true, false, List, [], ◌∷◌, ◌++◌, map}
-use Rattle.std.proofs.Common.{filter, cond, refl, sym, ap, ◌∙◌, true≢false, ◌⊎◌, inl, inr, Some}
-use Rattle.std.proofs.Common.{subst, append-nil}
+use Rattle.std.proofs.Common.{◌≡◌, ℕ, Bool, true, false, List, [], ◌∷◌, ◌++◌, map, filter, cond}
+use Rattle.std.proofs.Common.{refl, sym, ap, ◌∙◌, Some, subst, append-nil}
 use Rattle.std.specs.Prelude.{nat_eq}
 use Rattle.std.specs.List.{AllByRecursion, flat_map, range_with_len}
 use Rattle.std.proofs.lemmas.Cmp.{nat_list_cmp_total}
 use Rattle.std.proofs.lemmas.Map.Text.{is_eq-slice_cmp}
-use Rattle.std.specs.Ordering.{nat_cmp, is_eq, is_le, ordering_reverse}
+use Rattle.std.specs.Ordering.{nat_cmp, is_eq}
 use Rattle.std.specs.declared.cmp.Ordering.{Ordering}
 use Rattle.std.specs.declared.cmp.Ordering.TheVariants.{Less, Equal, Greater}
 use Rattle.std.specs.Cmp.Lexicographic.{slice_cmp, pointwise}
 use Rattle.gm_base.specs.Spans.{Span}
-use Rattle.gm_lexi.specs.Ends.{after_of, is_from_to}
+use Rattle.gm_lexi.specs.Ends.{is_from_to}
 use Rattle.gm_table.specs.Sorted.{is_within}
 use Rattle.gm_filter.specs.Tree.{Tree, include, exclude, negated, all, any, compare, between, like}
 use Rattle.gm_filter.specs.Tree.{one_of, is_null, ids, bbox, intersects, disjoint, within, during}
@@ -21,12 +20,12 @@ use Rattle.gm_bounds.specs.declared.bound.Bound.{Bound}
 use Rattle.gm_bounds.specs.declared.bound.Bound.TheVariants.{World, Listed}
 use Rattle.gm_bounds.specs.declared.ranges.Range.{Range}
 use Rattle.gm_bounds.specs.declared.ranges.Range.TheVariants as range
-use Rattle.gm_bounds.specs.Identifiers.{is_among, put, put_by, sorted_once, common, id_test}
+use Rattle.gm_bounds.specs.Identifiers.{is_among, put, put_by, sorted_once, id_test}
 use Rattle.gm_bounds.specs.Identifiers.{id_rules, ids_of}
 use Rattle.gm_plan.specs.KeyRanges.{id_ranges}
 use Rattle.gm_plan.specs.Spans.{span_behind, spans_in}
-use Rattle.gm_plan.proofs.ApartBounds.{IsOf, Keeps, of_tree}
-use Rattle.gm_plan.proofs.ApartSpans.{C, turned, Excludes, lows, AreExclusive, exclusive_append}
+use Rattle.gm_plan.proofs.ApartBounds.{IsOf, of_tree}
+use Rattle.gm_plan.proofs.ApartSpans.{C, turned, Excludes, lows, AreExclusive}
 
 -- each is below all that follow it
 abbrev pub Rises : List (List ℕ) → Type 0

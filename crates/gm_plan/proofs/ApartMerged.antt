@@ -2,7 +2,7 @@
 use Rattle.std.proofs.Common.{◌≡◌, ℕ, Bool, true, false, List, [], ◌∷◌, ◌++◌, map, refl, sym, ap}
 use Rattle.std.proofs.Common.{◌∙◌, true≢false, Option, Some, None}
 use Rattle.std.specs.Prelude.{if◌then◌else◌, fold}
-use Rattle.std.specs.List.{AllByRecursion, flat_map, range_with_len}
+use Rattle.std.specs.List.{AllByRecursion}
 use Rattle.std.proofs.lemmas.Cmp.{nat_list_cmp_total}
 use Rattle.std.specs.Ordering.{nat_cmp, is_lt, is_le}
 use Rattle.std.specs.declared.cmp.Ordering.{Ordering}
@@ -11,12 +11,11 @@ use Rattle.std.specs.Cmp.Lexicographic.{slice_cmp}
 use Rattle.gm_base.proofs.Numbers.{less_of}
 use Rattle.gm_bounds.specs.declared.byte_range.ByteRange.{ByteRange}
 use Rattle.gm_bounds.specs.declared.ranges.Range.TheVariants as range
-use Rattle.gm_bounds.specs.ByteRange.{is_less, less, greater, greater_end, joined, is_void_to}
-use Rattle.gm_bounds.specs.ByteRange.{is_void}
-use Rattle.gm_plan.specs.KeyRanges.{value_range, value_ranges}
+use Rattle.gm_bounds.specs.ByteRange.{is_less, less, greater_end, joined, is_void_to, is_void}
+use Rattle.gm_plan.specs.KeyRanges.{value_range}
 use Rattle.gm_plan.specs.Merging.{ends_below, stands_before, merged_in, merged}
 use Rattle.gm_plan.specs.Spans.{span_behind, spans_in, value_end}
-use Rattle.gm_plan.proofs.ApartSpans.{C, turned, less_then_le, Excludes, rising, AreExclusive}
+use Rattle.gm_plan.proofs.ApartSpans.{C, turned, Excludes, rising, AreExclusive}
 
 -- ---- ranges in which something lies
 pub less_by : (low high : List ℕ) (o : Ordering) → C high low ≡ o → is_le o ≡ false

@@ -1,19 +1,8 @@
 -- The spans of runs of codes, in the plane and in bins.
-use Rattle.std.proofs.Common.{◌≡◌, ℕ, zero, suc, ◌+◌, ◌/◌, ◌^◌, ◌<◌, ◌≤◌, Bool, true, false, ◌&&◌}
-use Rattle.std.proofs.Common.{◌==◌, nat_le, List, [], ◌∷◌, ◌++◌, append-nil, map, filter, cond}
-use Rattle.std.proofs.Common.{length, refl, sym, ap, ◌∙◌, true≢false, ◌⊎◌, inl, inr, arith, subst}
-use Rattle.std.specs.Prelude.{if◌then◌else◌, nat_lt}
-use Rattle.std.specs.List.{AllByRecursion, flat_map, range_with_len}
-use Rattle.std.proofs.lemmas.Bool.{ltb-false}
-use Rattle.std.proofs.lemmas.Bool.Decides.{nat_tests}
-use Rattle.std.proofs.lemmas.Nat.{le-div}
-use Rattle.gm_base.proofs.Lists.{all_append}
+use Rattle.std.proofs.Common.{◌≡◌, ℕ, ◌+◌, ◌^◌, ◌<◌, ◌≤◌, Bool, true, false, ◌&&◌, ◌==◌, nat_le}
+use Rattle.std.proofs.Common.{List, [], ◌∷◌, append-nil, map, refl, sym, ap, ◌∙◌, arith}
+use Rattle.std.specs.List.{AllByRecursion}
 use Rattle.gm_base.proofs.Numbers.{le_false, eq_false}
-use Rattle.gm_base.specs.Spans.{Span}
-use Rattle.gm_calendar.specs.declared.period.Period.{Period}
-use Rattle.gm_calendar.specs.declared.period.Period.TheVariants.{Day, Week, Month, Year}
-use Rattle.gm_calendar.specs.Period.{last_of}
-use Rattle.gm_geom.specs.declared.point.Box2.{Box2}
 use Rattle.gm_lexi.specs.Ends.{after_of, is_from_to}
 use Rattle.gm_runs.specs.Runs.{AreRunsFrom}
 use Rattle.gm_table.specs.Sorted.{is_within}
@@ -21,20 +10,15 @@ use Rattle.gm_trees.specs.declared.window.Window.{Window}
 use Rattle.gm_trees.specs.Tree.{Shape}
 use Rattle.gm_split.specs.Explained.{explained_runs, stop_level}
 use Rattle.gm_types.specs.declared.index.IndexKind.{IndexKind}
-use Rattle.gm_types.specs.Specification.{Specification, shards_of}
+use Rattle.gm_types.specs.Specification.{Specification}
 use Rattle.gm_keys.specs.Key.{prefix_of, code_front, bin_code_front}
-use Rattle.gm_bounds.specs.declared.interval.Interval.{Interval}
 use Rattle.gm_bounds.specs.declared.ranges.Range.{Range}
 use Rattle.gm_bounds.specs.declared.ranges.Range.TheVariants as range
-use Rattle.gm_plan.specs.Bins.{bins_of, is_met}
 use Rattle.gm_plan.specs.Covering.{IsCurve}
-use Rattle.gm_plan.specs.KeyRanges.{code_range, bin_range, plane_ranges, bin_ranges, ranges_in_bins}
-use Rattle.gm_plan.specs.KeyRanges.{space_ranges, span_of_bins}
+use Rattle.gm_plan.specs.KeyRanges.{code_range, bin_range, plane_ranges}
 use Rattle.gm_plan.specs.Spans.{end_of, span_behind, spans_in}
-use Rattle.gm_plan.specs.Windows.{windows_in}
-use Rattle.gm_plan.proofs.ApartCodes.{ByteLaws, AreCurved, is_curved, shards_exclusive}
-use Rattle.gm_plan.proofs.ApartSpans.{Excludes, lows, AreExclusive, exclusive_append}
-use Rattle.gm_plan.proofs.InPlane.{runs_narrow, shards_few}
+use Rattle.gm_plan.proofs.ApartSpans.{Excludes, lows, AreExclusive}
+use Rattle.gm_plan.proofs.InPlane.{runs_narrow}
 use Rattle.gm_plan.proofs.Within.{CodeLaws, AreNarrow, within_is, code_end, bin_code_end}
 
 none_first : (x y z : Bool) → y ≡ false → (x && (y && z)) ≡ false

@@ -1,9 +1,8 @@
 -- In each byte range of a filter something lies; so the spans of values share no key.
-use Rattle.std.proofs.Common.{◌≡◌, ℕ, Bool, true, false, List, [], ◌∷◌, ◌++◌, length, refl, sym, ap}
-use Rattle.std.proofs.Common.{◌∙◌, Option, Some, None}
-use Rattle.std.specs.Prelude.{ℤ, pos, ◌+ℤ◌, ◌||◌, if◌then◌else◌, nat_eq, nat_le, fold}
-use Rattle.std.specs.Prelude.{option_to_list}
-use Rattle.std.specs.List.{AllByRecursion, flat_map, range_with_len}
+use Rattle.std.proofs.Common.{◌≡◌, ℕ, Bool, true, false, List, [], ◌∷◌, ◌++◌, length, refl}
+use Rattle.std.proofs.Common.{Option, Some, None}
+use Rattle.std.specs.Prelude.{pos, ◌+ℤ◌, ◌||◌, if◌then◌else◌, nat_eq, nat_le, fold, option_to_list}
+use Rattle.std.specs.List.{flat_map, range_with_len}
 use Rattle.std.specs.Ordering.{nat_cmp}
 use Rattle.std.specs.Cmp.Lexicographic.{slice_cmp}
 use Rattle.gm_base.proofs.Lists.{all_append}
@@ -26,12 +25,11 @@ use Rattle.gm_bounds.specs.Values.{range_test, range_rules, ranges_at, byte_rang
 use Rattle.gm_bounds.specs.Values.{compared_form, compared_none, lying_between, literal_form}
 use Rattle.gm_bounds.specs.Values.{ranging, ranging_from, beginning, begun_by, patterned}
 use Rattle.gm_bounds.specs.Values.{text_form, is_blank, has_zero, ranges_of}
-use Rattle.gm_bounds.specs.Lists.{kept, widened, hull_of, capped, pairs_of, pairs, meeting, single}
-use Rattle.gm_bounds.specs.Lists.{listed}
+use Rattle.gm_bounds.specs.Lists.{kept, widened, hull_of, capped, pairs_of, pairs, single, listed}
 use Rattle.gm_plan.specs.KeyRanges.{list_of, value_ranges}
 use Rattle.gm_plan.specs.Merging.{merged}
 use Rattle.gm_plan.specs.Spans.{spans_in}
-use Rattle.gm_plan.proofs.ApartBounds.{IsOf, Keeps, of_tree}
+use Rattle.gm_plan.proofs.ApartBounds.{IsOf, of_tree}
 use Rattle.gm_plan.proofs.ApartIds.{one_shard}
 use Rattle.gm_plan.proofs.ApartMerged.{AreFull, joined_full, all_rise, values_exclusive}
 use Rattle.gm_plan.proofs.ApartSpans.{AreExclusive}

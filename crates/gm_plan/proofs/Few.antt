@@ -26,8 +26,6 @@ use Rattle.gm_bounds.specs.Time.{intervals_of, intervals_at, interval_rules, int
 use Rattle.gm_bounds.specs.Time.{lasting, dated, compared, lying_between, instants_of}
 use Rattle.gm_bounds.specs.ClosedBox as box
 use Rattle.gm_bounds.specs.Interval as interval
-use Rattle.gm_plan.specs.KeyRanges.{list_of}
-
 abbrev pub IsFew : {X : Type 0} → Bound X → Type 0
 IsFew World = Unit {0}
 IsFew (Listed xs) = length xs ≤ 8

@@ -1,12 +1,11 @@
 -- What is in a box has cells in its window, and its key is read.
 use Rattle.std.proofs.Common.{◌≡◌, ℕ, zero, suc, ◌+◌, ◌^◌, ◌<◌, ◌≤◌, Bool, true, ◌&&◌, List, []}
-use Rattle.std.proofs.Common.{◌∷◌, ◌++◌, length, refl, sym, ◌⊎◌, inl, inr, arith, subst}
+use Rattle.std.proofs.Common.{◌∷◌, ◌++◌, length, refl, ◌⊎◌, inl, inr, arith, subst}
 use Rattle.std.proofs.lemmas.Bool.{and_parts, and_from, or_left, or_right, or_cases, le-leb}
 use Rattle.std.proofs.lemmas.Bool.{leb-true}
-use Rattle.std.proofs.lemmas.Int.{ints}
-use Rattle.std.specs.Prelude.{ℤ, int_le, ◌≤ℤ◌, leb, slice_index_or}
+use Rattle.std.specs.Prelude.{int_le, ◌≤ℤ◌, leb, slice_index_or}
 use Rattle.std.specs.List.{list_any, flat_map, range_with_len}
-use Rattle.gm_base.proofs.Numbers.{le_from, le_to}
+use Rattle.gm_base.proofs.Numbers.{le_from}
 use Rattle.gm_geom.specs.declared.point.Point.{Point}
 use Rattle.gm_geom.specs.declared.point.Box2.{Box2}
 use Rattle.gm_shapes.specs.Segment.{do_overlap, reaches}

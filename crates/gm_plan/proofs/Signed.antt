@@ -1,11 +1,7 @@
 -- Signed numbers of 64 bits, and what is kept of a list of windows.
 use Rattle.std.proofs.Common.{◌≡◌, ℕ, ◌+◌, List, ◌++◌, ap, ◌∙◌, arith, append-nil}
-use Rattle.std.proofs.lemmas.Int.{to_z-of_z}
-use Rattle.std.specs.Prelude.{ℤ}
 use Rattle.std.specs.List.{flat_map, range_with_len}
 use Rattle.std.proofs.lemmas.Grind.{flat_map-append}
-use mir.Val.{SFits, of_z, to_z}
-use mir.Syntax.{w64}
 use Rattle.gm_trees.specs.declared.window.Node3.{Node3}
 use Rattle.gm_trees.specs.declared.window.Window.{Window}
 use Rattle.gm_plan.proofs.Times.{range_split}

@@ -1,14 +1,13 @@
 -- The keys of values that are in ranges are read, and the ranges are few.
-use Rattle.std.proofs.Common.{◌≡◌, ℕ, suc, ◌+◌, ◌<◌, ◌≤◌, Bool, true, false, ◌||◌, List, [], ◌∷◌}
+use Rattle.std.proofs.Common.{◌≡◌, ℕ, suc, ◌+◌, ◌≤◌, Bool, true, false, ◌||◌, List, [], ◌∷◌}
 use Rattle.std.proofs.Common.{◌++◌, length, map, refl, sym, ap, ◌∙◌, true≢false, ◌⊎◌, inl, inr}
 use Rattle.std.proofs.Common.{Option, Some, None, arith, subst, cond, append_assoc}
 use Rattle.std.proofs.lemmas.Bool.{and_parts, or_left, or_right, or_cases}
-use Rattle.std.specs.Prelude.{fold, option_map, All}
+use Rattle.std.specs.Prelude.{fold, option_map}
 use Rattle.std.specs.List.{list_any}
 use Rattle.std.specs.Ordering.{nat_cmp, is_le}
 use Rattle.std.specs.Cmp.Lexicographic.{slice_cmp}
-use Rattle.gm_base.specs.Identifier.{is_identifier}
-use Rattle.gm_lexi.specs.Ends.{after_of, is_before, is_from_to}
+use Rattle.gm_lexi.specs.Ends.{after_of, is_from_to}
 use Rattle.gm_table.specs.Sorted.{is_within}
 use Rattle.gm_types.specs.declared.index.IndexKind.{IndexKind}
 use Rattle.gm_types.specs.declared.index.IndexKind.TheVariants.{Attr}

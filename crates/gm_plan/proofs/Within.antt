@@ -4,7 +4,7 @@ use Rattle.std.proofs.Common.{[], ◌∷◌, ◌++◌, map, refl, sym, ◌∙◌
 use Rattle.std.proofs.Common.{Some, None, arith, subst, append_assoc, append-nil}
 use Rattle.std.specs.Prelude.{nat_le, ◌==◌, is_some, if◌then◌else◌}
 use Rattle.std.specs.List.{list_any, flat_map, range_with_len, AllByRecursion}
-use Rattle.std.proofs.lemmas.Bool.{and_from, or_left, or_right, le-leb, eqb-true, eq-eqb}
+use Rattle.std.proofs.lemmas.Bool.{and_from, or_left, or_right, eqb-true}
 use Rattle.std.proofs.lemmas.List.Folds.{list_any-append}
 use Rattle.byteorder.specs.Endian.{big_bytes}
 use Rattle.gm_base.proofs.Numbers.{eq_true, le_true}

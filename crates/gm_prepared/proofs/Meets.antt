@@ -4,8 +4,7 @@ use Rattle.std.proofs.Common.{length, get_or, None, Some, inl, inr, refl, sym, a
 use Rattle.std.proofs.Common.{arith}
 use Rattle.std.specs.Prelude.{int_le, filter}
 use Rattle.std.specs.List.{list_any, AllByRecursion}
-use Rattle.std.proofs.lemmas.Bool.{and_from, or_cases, or_left, or_right, both_ways}
-use Rattle.std.proofs.lemmas.Bool.{false_from_ne_true}
+use Rattle.std.proofs.lemmas.Bool.{and_from, or_cases, or_left, or_right}
 use Rattle.std.proofs.lemmas.Int.{ints}
 use Rattle.std.proofs.lemmas.List.{get_or_read}
 use Rattle.std.proofs.lemmas.List.Concat.{flat_map-append}

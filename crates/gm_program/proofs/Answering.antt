@@ -1,7 +1,6 @@
 -- That what is collected is the answer.
-use Rattle.std.proofs.Common.{◌≡◌, ℕ, Bool, true, false, cond, ◌&&◌, T, ⊎_elim, List, [], ◌∷◌}
-use Rattle.std.proofs.Common.{filter, map, length, Option, Some, None, refl, sym, ap, subst, ◌∙◌}
-use Rattle.std.proofs.Common.{arith}
+use Rattle.std.proofs.Common.{◌≡◌, ℕ, Bool, true, false, cond, T, ⊎_elim, List, [], ◌∷◌, filter}
+use Rattle.std.proofs.Common.{map, length, Option, Some, None, refl, sym, ap, subst, ◌∙◌, arith}
 use Rattle.std.specs.Prelude.{if◌then◌else◌}
 use Rattle.std.specs.List.{AllByRecursion, list_any}
 use Rattle.std.specs.Ordering.{nat_cmp, is_eq, is_lt}
@@ -13,7 +12,6 @@ use Rattle.std.specs.FinMap as map_of
 use Rattle.std.specs.FinMap.{find, is_sorted, entries_sorted, get-entries}
 use Rattle.std.specs.FinMap.{slice_cmp-IsAntisymmetric, nat_cmp-IsAntisymmetric}
 use Rattle.std.specs.FinMap.Entries.{below_all, same_entries}
-use Rattle.gm_base.proofs.Options.{same_some}
 use Rattle.gm_base.proofs.Booleans.{true_or_false}
 use Rattle.gm_base.proofs.Lists.{each_as}
 use Rattle.gm_base.proofs.Booleans.{both_from-T, both_of-T}
@@ -21,11 +19,10 @@ use Rattle.gm_feature.specs.declared.feature.Feature.{Feature}
 use Rattle.gm_feature.specs.declared.value.Value.{Value}
 use Rattle.gm_filter.specs.Tree.{Tree}
 use Rattle.gm_filter.specs.Truth.{is_true}
-use Rattle.gm_engine_rows.specs.State.{State, Features, features_of, feature_at}
+use Rattle.gm_engine_rows.specs.State.{State, features_of, feature_at}
 use Rattle.gm_program.specs.Collecting.{Collected, feature_of, values_if, Collects}
 use Rattle.gm_program.specs.Question.{answer}
-use Rattle.gm_program.proofs.Collected.{is_key, same_key, key_itself}
-use Rattle.gm_program.proofs.Collected.{AreNamed}
+use Rattle.gm_program.proofs.Collected.{is_key, same_key, key_itself, AreNamed}
 
 abbrev pub Entry : Type 0
 Entry = List ℕ × Feature

@@ -1,12 +1,11 @@
 -- What a change of one feature makes of the rows of a store.
-use Rattle.std.proofs.Common.{◌≡◌, ◌≤◌, ◌<◌, ◌+◌, ℕ, Bool, true, false, not, List, [], ◌∷◌, map}
+use Rattle.std.proofs.Common.{◌≡◌, ◌≤◌, ◌<◌, ◌+◌, ℕ, false, not, List, [], ◌∷◌, map}
 use Rattle.std.proofs.Common.{length, Option, Some, None, refl, sym, ap, subst, ◌∙◌, arith}
 use Rattle.std.specs.Prelude.{nat_le, nat_lt, slice_get, get_or}
 use Rattle.std.specs.Option.{ForSome}
 use Rattle.std.proofs.lemmas.Option.{slice_get_read, get_or_from_slice_get}
 use Rattle.std.proofs.lemmas.Bool.Decides.{nat_tests}
 use Rattle.gm_base.proofs.Options.{same_some, none_some}
-use Rattle.gm_base.proofs.Booleans.{true_of_not, false_of_not}
 use Rattle.gm_table.specs.declared.row.Row.{Row}
 use Rattle.gm_table.specs.Batch.{applied_at}
 use Rattle.gm_table.specs.Sorted.{Rows, IsRising, at_key}
@@ -16,8 +15,8 @@ use Rattle.gm_feature.specs.Feature.{Fits}
 use Rattle.gm_engine_rows.specs.State.{State, IsState, IsHeld, type_at, types_of, feature_at}
 use Rattle.gm_engine_rows.specs.State.{changed_in}
 use Rattle.gm_engine_rows.specs.Rows.{rows_of}
-use Rattle.gm_engine_rows.specs.Change.{keys_at, rows_with, removes_of, puts_of}
-use Rattle.gm_program.specs.Limits.{IsWithinLimits, has_too_many_rows}
+use Rattle.gm_engine_rows.specs.Change.{keys_at, removes_of, puts_of}
+use Rattle.gm_program.specs.Limits.{has_too_many_rows}
 use Rattle.gm_program.specs.Store.{Types, Holds}
 
 -- the laws of changes

@@ -1,7 +1,6 @@
 -- What is collected of features, by their identifiers.
-use Rattle.std.proofs.Common.{◌≡◌, ℕ, Bool, true, false, true≢false, cond, ◌||◌, ◌⊎◌, inl}
-use Rattle.std.proofs.Common.{inr, ⊎_elim, List, [], ◌∷◌, ◌++◌, filter, map, Option, Some, None}
-use Rattle.std.proofs.Common.{refl, sym, ap, subst, ◌∙◌}
+use Rattle.std.proofs.Common.{◌≡◌, ℕ, Bool, true, false, true≢false, cond, ◌||◌, inl, inr, ⊎_elim}
+use Rattle.std.proofs.Common.{List, [], ◌∷◌, ◌++◌, Option, Some, None, refl, sym, ap, subst, ◌∙◌}
 use Rattle.std.specs.Prelude.{if◌then◌else◌}
 use Rattle.std.specs.List.{AllByRecursion, list_any}
 use Rattle.std.specs.Ordering.{nat_cmp, match_ordering, eq_by_cmp, is_eq}
@@ -12,10 +11,9 @@ use Rattle.std.specs.declared.cmp.Ordering.TheVariants.{Less, Equal, Greater}
 use Rattle.std.specs.BTreeMap.{insert_entry}
 use Rattle.std.specs.FinMap as map_of
 use Rattle.std.proofs.lemmas.List.{nil_from_length}
-use Rattle.std.specs.FinMap.{len-empty, len-entries, find, put, is_sorted, entries_sorted}
-use Rattle.std.specs.FinMap.{get-entries, get-insert, entries-insert, slice_cmp-IsAntisymmetric}
-use Rattle.std.specs.FinMap.{nat_cmp-IsAntisymmetric}
-use Rattle.std.specs.FinMap.Entries.{below_all, by_order, same_entries}
+use Rattle.std.specs.FinMap.{len-empty, len-entries, find, put, get-entries, get-insert}
+use Rattle.std.specs.FinMap.{entries-insert, slice_cmp-IsAntisymmetric, nat_cmp-IsAntisymmetric}
+use Rattle.std.specs.FinMap.Entries.{by_order}
 use Rattle.gm_base.proofs.Options.{same_some, none_some}
 use Rattle.gm_base.proofs.Lists.{each_as}
 use Rattle.gm_base.proofs.Booleans.{true_or_false, or_true}
@@ -23,7 +21,7 @@ use Rattle.gm_feature.specs.declared.feature.Feature.{Feature}
 use Rattle.gm_feature.specs.declared.value.Value.{Value}
 use Rattle.gm_filter.specs.Tree.{Tree}
 use Rattle.gm_filter.specs.Truth.{is_true}
-use Rattle.gm_engine_rows.specs.State.{State, Features, feature_at}
+use Rattle.gm_engine_rows.specs.State.{State, feature_at}
 use Rattle.gm_program.specs.Collecting.{Collected, collected, values_if, Collects}
 use Rattle.gm_program.specs.Found.{IsAmong, IsTrueOf, Finds}
 

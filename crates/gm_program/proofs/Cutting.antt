@@ -8,7 +8,7 @@ use Rattle.std.proofs.Math.Nat.{min_comm}
 use Rattle.std.proofs.Math.Seq.{take-add}
 use Rattle.std.specs.Prelude.{◌==◌, slice_index}
 use Rattle.std.proofs.lemmas.Grind.{common_steps}
-use Rattle.std.proofs.lemmas.List.{append-nil, take-append-drop, take_min, take_all, length-drop}
+use Rattle.std.proofs.lemmas.List.{append-nil, take-append-drop, take_min, length-drop}
 use Rattle.gm_base.proofs.Lists.{rest_whole}
 use Rattle.gm_program.specs.Lines.{complete_from, partial_from, last_line, cut}
 

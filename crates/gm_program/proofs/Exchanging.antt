@@ -20,7 +20,6 @@ use Rattle.gm_table.specs.Batch.{has_key, are_distinct, applied_at}
 use Rattle.gm_table.specs.Sorted.{Rows, IsRising, at_key}
 use Rattle.gm_types.specs.Specification.{Specification}
 use Rattle.gm_feature.specs.declared.feature.Feature.{Feature}
-use Rattle.gm_feature.specs.Feature.{Fits}
 use Rattle.gm_filter.specs.Tree.{Tree}
 use Rattle.gm_filter.specs.Truth.{is_true}
 use Rattle.gm_engine_rows.specs.declared.exchange.Exchange.{Exchange}

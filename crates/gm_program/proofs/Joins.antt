@@ -1,6 +1,6 @@
 -- Texts that are appended one after the other.
-use Rattle.std.proofs.Common.{◌≡◌, ◌<◌, ℕ, zero, suc, ◌+◌, ◌-◌, List, [], ◌∷◌, ◌++◌, append_assoc}
-use Rattle.std.proofs.Common.{refl, sym, ap, ◌∙◌, arith}
+use Rattle.std.proofs.Common.{◌≡◌, ◌<◌, ℕ, suc, ◌+◌, ◌-◌, List, ◌++◌, append_assoc}
+use Rattle.std.proofs.Common.{sym, ap, ◌∙◌, arith}
 use Rattle.gm_program.specs.Generator.{put_line, put_lines, behind}
 
 -- what follows is appended later

@@ -1,11 +1,9 @@
 -- Made scripts, served in two parts.
-use Rattle.std.proofs.Common.{◌≡◌, ℕ, zero, suc, ◌+◌, ◌<◌, ◌≤◌, ◌^◌, List, [], ◌∷◌, ◌++◌, codes}
-use Rattle.std.proofs.Common.{length, Option, Some, None, refl, sym, ap, ◌∙◌, subst, arith}
-use Rattle.std.proofs.Common.{append_assoc}
+use Rattle.std.proofs.Common.{◌≡◌, ℕ, zero, suc, ◌+◌, List, [], ◌∷◌, ◌++◌, codes}
+use Rattle.std.proofs.Common.{length, Option, Some, None, refl, sym, ap, ◌∙◌, subst}
 use Rattle.std.proofs.lemmas.List.{append-nil}
 use Rattle.std.proofs.lemmas.Option.{none-some}
 use Rattle.std.specs.Fmt.{decimal}
-use Rattle.gm_base.specs.Counter.{capped_sum}
 use Rattle.gm_calendar.specs.Spelling.{instant_text}
 use Rattle.gm_engine_rows.specs.State.{State}
 use Rattle.gm_geom.specs.Number.{fixed_text}
@@ -17,11 +15,9 @@ use Rattle.gm_program.specs.Generator.{line, behind, drawn, centred, second_of_2
 use Rattle.gm_program.specs.Generator.{put_line, put_lines, first_line, loading, counting}
 use Rattle.gm_program.specs.Generator.{generated_script}
 use Rattle.gm_program.specs.Lines.{complete_from, partial_from, lines_of, last_line}
-use Rattle.gm_program.specs.Machine.{Machine, machine_at, after, replies, examined_by, end_turn}
-use Rattle.gm_program.specs.Machine.{output, examined, state_after, last_turn}
+use Rattle.gm_program.specs.Machine.{Machine, machine_at, after, replies, output, state_after}
 use Rattle.gm_program.specs.Script.{Loads, made_output}
-use Rattle.gm_program.specs.Serve.{Moment, moment, KeptAt, Goes, Serves, Closes, closing, Writes}
-use Rattle.gm_program.specs.Serve.{WritesPart}
+use Rattle.gm_program.specs.Serve.{Moment, moment, KeptAt, Serves, Closes, closing, WritesPart}
 use Rattle.gm_program.proofs.Cutting.{partial_from-append}
 use Rattle.gm_program.proofs.Streaming.{closes_on, closing-append, lines_of-append, part_behind}
 use Rattle.gm_program.proofs.Streaming.{part_of_more, part_same}

@@ -1,5 +1,5 @@
 -- What parse says of the numbers that are read.
-use Rattle.std.proofs.Common.{◌≡◌, ℕ, ◌^◌, ◌<◌, ◌==◌, ◌&&◌, not, nat_le, Bool, true, false, cond}
+use Rattle.std.proofs.Common.{◌≡◌, ℕ, ◌^◌, ◌<◌, ◌&&◌, not, nat_le, true, cond}
 use Rattle.std.proofs.Common.{List, [], ◌∷◌, length, drop, Some, None, refl, ap, subst, arith}
 use Rattle.std.specs.List.{list_all}
 use Rattle.std.specs.Char.{is_ascii_digit, digit_value}

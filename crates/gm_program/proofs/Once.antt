@@ -1,7 +1,6 @@
 -- A part finds each feature once.
-use Rattle.std.proofs.Common.{◌≡◌, ◌≤◌, ℕ, ◌+◌, Bool, true, false, cond, T, ◌⊎◌, ⊎_elim, List, []}
-use Rattle.std.proofs.Common.{◌∷◌, ◌++◌, length, Option, Some, None, refl, sym, ap, subst, ◌∙◌}
-use Rattle.std.proofs.Common.{arith}
+use Rattle.std.proofs.Common.{◌≡◌, ◌≤◌, ℕ, ◌+◌, Bool, true, false, cond, T, ⊎_elim, List, [], ◌∷◌}
+use Rattle.std.proofs.Common.{◌++◌, length, Option, Some, None, refl, sym, ap, subst, ◌∙◌, arith}
 use Rattle.std.specs.Prelude.{is_some, if◌then◌else◌}
 use Rattle.std.specs.List.{AllByRecursion}
 use Rattle.std.specs.Ordering.{nat_cmp}
@@ -24,8 +23,7 @@ use Rattle.gm_engine_rows.specs.State.{State, feature_at}
 use Rattle.gm_engine_rows.specs.Rows.{row_map, rows_of}
 use Rattle.gm_program.specs.Collecting.{Collected, collected}
 use Rattle.gm_program.proofs.Answering.{less_not_key}
-use Rattle.gm_program.proofs.Collected.{is_key, same_key, key_itself}
-use Rattle.gm_program.proofs.Collected.{insert_put}
+use Rattle.gm_program.proofs.Collected.{is_key, same_key, key_itself, insert_put}
 use Rattle.gm_program.proofs.Inside.{SameBytes, IsRowOfType}
 
 -- how many of the features have the identifier, and how many of the rows the key

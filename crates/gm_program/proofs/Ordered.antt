@@ -1,29 +1,27 @@
 -- Rows that are sorted and have their doubles dropped are those that are put one after the other.
-use Rattle.std.proofs.Common.{◌≡◌, ℕ, Bool, true, false, cond, ◌&&◌, ◌||◌, ◌⊎◌, inl, inr, T, ⊎_elim}
+use Rattle.std.proofs.Common.{◌≡◌, ℕ, Bool, true, false, cond, ◌&&◌, ◌||◌, T, ⊎_elim}
 use Rattle.std.proofs.Common.{List, [], ◌∷◌, map, Some, None, refl, sym, ap, subst, ◌∙◌, Bor}
 use Rattle.std.specs.Prelude.{All, IsPermutation, IsSorted}
 use Rattle.std.specs.List.{AllByRecursion, list_any, dedup, dedup_from}
 use Rattle.std.specs.List.Sorted.{IsStrictlySortedBy}
-use Rattle.std.specs.Ordering.{nat_cmp, is_lt, ordering_then, match_ordering, eq_by_cmp}
-use Rattle.std.specs.Cmp.{Equal-is, IsTotalOrder, tied_itself, both_tied, then_total, on_total}
+use Rattle.std.specs.Ordering.{nat_cmp, is_lt, ordering_then, eq_by_cmp}
+use Rattle.std.specs.Cmp.{IsTotalOrder, tied_itself, both_tied, then_total, on_total}
 use Rattle.std.specs.Cmp.Lexicographic.{slice_cmp, nat_list_cmp_total, bytes_decides}
 use Rattle.std.specs.Str.{bytes_eq}
 use Rattle.std.specs.declared.cmp.Ordering.{Ordering}
 use Rattle.std.specs.declared.cmp.Ordering.TheVariants.{Less, Equal, Greater}
 use Rattle.std.specs.BTreeMap.{insert_entry}
-use Rattle.std.specs.FinMap.{find, put, is_sorted, slice_cmp-IsAntisymmetric}
-use Rattle.std.specs.FinMap.{nat_cmp-IsAntisymmetric}
-use Rattle.std.specs.FinMap.Entries.{below_all, by_order, find-put, is_sorted-put, same_entries}
+use Rattle.std.specs.FinMap.{find, is_sorted, slice_cmp-IsAntisymmetric, nat_cmp-IsAntisymmetric}
+use Rattle.std.specs.FinMap.Entries.{below_all, find-put, is_sorted-put, same_entries}
 use Rattle.std.proofs.lemmas.List.Elements.{recursion_from_All}
 use Rattle.std.proofs.lemmas.List.Kept.{IsStrictlySortedBy-dedup}
 use Rattle.std.proofs.lemmas.List.Sorted.{All-permutation, IsPermutation-map}
 use Rattle.std.proofs.lemmas.List.Sorted.{list_any-IsPermutation}
 use Rattle.std.proofs.lemmas.Map.Keys.{sorted_head, sorted_tail}
 use Rattle.std.proofs.lemmas.Map.Text.{is_eq-slice_cmp}
-use Rattle.gm_base.proofs.Booleans.{true_or_false, both_of}
-use Rattle.gm_base.proofs.Booleans.{both_from-T}
+use Rattle.gm_base.proofs.Booleans.{true_or_false, both_of, both_from-T}
 use Rattle.gm_scan.specs.FoundRows.{FoundRow}
-use Rattle.gm_program.specs.InOrder.{put_all, in_order, seen, AreBound}
+use Rattle.gm_program.specs.InOrder.{put_all, in_order, seen}
 use Rattle.gm_program.proofs.Collected.{is_key, same_key, insert_put}
 
 abbrev Lent : Type 0

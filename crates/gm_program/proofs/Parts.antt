@@ -1,13 +1,13 @@
 -- Parts, one after the other.
 use Rattle.std.proofs.Common.{◌≡◌, ◌<◌, ◌+◌, ℕ, zero, suc, List, [], ◌∷◌, ◌++◌, map, length, take}
-use Rattle.std.proofs.Common.{drop, refl, sym, ap, subst, ◌∙◌, arith, append_assoc}
+use Rattle.std.proofs.Common.{drop, sym, ap, subst, ◌∙◌, arith, append_assoc}
 use Rattle.std.specs.Prelude.{get_or, All}
 use Rattle.std.specs.List.{AllByRecursion}
 use Rattle.std.proofs.lemmas.List.{take_more}
 use Rattle.std.proofs.lemmas.List.Elements.{recursion_from_All}
 use Rattle.gm_table.specs.Sorted.{Rows}
 use Rattle.gm_types.specs.Specification.{Specification}
-use Rattle.gm_filter.specs.Tree.{Tree, tree}
+use Rattle.gm_filter.specs.Tree.{tree}
 use Rattle.gm_strategy.specs.declared.part.Part.{Part}
 use Rattle.gm_strategy.specs.Choice.{Chosen, IsServed, chosen_of}
 use Rattle.gm_program.specs.Found.{tests_of}

@@ -1,26 +1,19 @@
 -- Questions by their plans.
-use Rattle.std.proofs.Common.{◌≡◌, ◌≤◌, ◌<◌, ◌+◌, ◌*◌, ◌^◌, ◌||◌, ℕ, Bool, true, false, List, []}
-use Rattle.std.proofs.Common.{◌∷◌, ◌++◌, map, length, count_by, Option, Some, None, refl, sym, ap}
-use Rattle.std.proofs.Common.{subst, ◌∙◌, arith}
-use Rattle.std.specs.Prelude.{if◌then◌else◌, IfSome, get_or, Result, Ok, Err, OnOk}
+use Rattle.std.proofs.Common.{◌≡◌, ◌≤◌, ◌<◌, ◌+◌, ◌*◌, ◌^◌, ◌||◌, ℕ, true, false, List, [], ◌∷◌}
+use Rattle.std.proofs.Common.{◌++◌, map, length, Some, None, refl, sym, ap, subst, ◌∙◌, arith}
+use Rattle.std.specs.Prelude.{if◌then◌else◌, Result, Ok, Err, OnOk}
 use Rattle.std.specs.List.{list_any}
 use Rattle.std.proofs.lemmas.List.Sums.{count_by-le-length}
-use Rattle.gm_base.specs.Counter.{capped_sum}
 use Rattle.gm_base.specs.declared.code.Code.{Code}
 use Rattle.gm_base.specs.declared.code.Code.TheVariants.{E19}
 use Rattle.gm_table.specs.Sorted.{Rows}
-use Rattle.gm_types.specs.declared.index.IndexKind.{IndexKind}
-use Rattle.gm_types.specs.Index.{has_index}
 use Rattle.gm_types.specs.Specification.{Specification}
 use Rattle.gm_feature.specs.declared.feature.Feature.{Feature}
-use Rattle.gm_filter.specs.Tree.{Tree}
 use Rattle.gm_filter.specs.Truth.{is_true}
-use Rattle.gm_engine_rows.specs.State.{State, IsState, type_at, feature_at}
-use Rattle.gm_engine_rows.specs.Rows.{rows_of}
+use Rattle.gm_engine_rows.specs.State.{State, IsState, type_at}
 use Rattle.gm_plan.specs.Inside.{is_inside, read_spans}
 use Rattle.gm_script.specs.declared.reply.Reply.TheVariants as reply
 use Rattle.gm_script.specs.Order.{Asked}
-use Rattle.gm_script.specs.Suits.{IsHint}
 use Rattle.gm_strategy.specs.Choice.{Chosen}
 use Rattle.gm_strategy.specs.Strategy.{plan_of}
 use Rattle.gm_program.specs.Found.{tests_of}

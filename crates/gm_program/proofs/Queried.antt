@@ -1,5 +1,5 @@
 -- What the rows are that are found for a question, and what it is answered.
-use Rattle.std.proofs.Common.{◌≡◌, ◌^◌, ℕ, List, map, length, Some, sym, ap, subst, ◌∙◌}
+use Rattle.std.proofs.Common.{◌≡◌, ℕ, List, map, length, Some, sym, ap, subst, ◌∙◌}
 use Rattle.std.specs.Prelude.{All}
 use Rattle.std.specs.List.{flat_map}
 use Rattle.std.proofs.lemmas.List.Elements.{All-from_recursion}

@@ -1,12 +1,9 @@
 -- What a question is answered.
-use Rattle.std.proofs.Common.{◌≡◌, ◌≤◌, ◌<◌, ◌^◌, ◌&&◌, ℕ, Bool, true, false, List, map, length}
-use Rattle.std.proofs.Common.{Option, Some, None, refl, sym, ap, subst, ◌∙◌, arith}
-use Rattle.std.specs.Prelude.{nat_le, slice_get, get_or}
+use Rattle.std.proofs.Common.{◌≡◌, ◌<◌, ◌^◌, ℕ, List, map}
+use Rattle.std.proofs.Common.{Option, Some, None, sym, ap, subst, ◌∙◌, arith}
+use Rattle.std.specs.Prelude.{get_or}
 use Rattle.std.specs.List.{list_any}
-use Rattle.std.proofs.lemmas.Bool.Decides.{nat_tests}
 use Rattle.gm_base.proofs.Options.{same_some}
-use Rattle.gm_base.proofs.Booleans.{both_of}
-use Rattle.gm_base.specs.Counter.{capped_sum}
 use Rattle.gm_base.specs.declared.code.Code.{Code}
 use Rattle.gm_table.specs.Sorted.{Rows}
 use Rattle.gm_types.specs.declared.index.IndexKind.{IndexKind}
@@ -15,7 +12,6 @@ use Rattle.gm_feature.specs.declared.feature.Feature.{Feature}
 use Rattle.gm_filter.specs.Tree.{Tree}
 use Rattle.gm_filter.specs.Truth.{is_true}
 use Rattle.gm_engine_rows.specs.State.{State, type_at}
-use Rattle.gm_engine_rows.specs.Rows.{rows_of}
 use Rattle.gm_script.specs.declared.reply.Reply.TheVariants as reply
 use Rattle.gm_script.specs.Order.{Asked}
 use Rattle.gm_script.specs.Suits.{IsQuestion}
@@ -23,18 +19,15 @@ use Rattle.gm_strategy.specs.declared.part.Part.{Part}
 use Rattle.gm_strategy.specs.Choice.{Chosen, chosen_of}
 use Rattle.gm_strategy.specs.Strategy.{plan_of}
 use Rattle.gm_program.specs.declared.execute.plan.Planned.TheVariants as plan
-use Rattle.gm_program.specs.Collecting.{Collected, feature_of, Collects}
 use Rattle.gm_program.specs.Found.{tests_of}
 use Rattle.gm_program.specs.Plan.{IsPlanned}
-use Rattle.gm_program.specs.Question.{answer, rows_examined, plan_lines}
+use Rattle.gm_program.specs.Question.{plan_lines}
 use Rattle.gm_program.specs.Serve.{Executes}
-use Rattle.gm_program.specs.Step.{Outcome, asked_of, is_target, found, counted, explained}
-use Rattle.gm_program.specs.Step.{query_step, count_step, explain_step}
+use Rattle.gm_program.specs.Step.{Outcome, asked_of, explained, explain_step}
 use Rattle.gm_program.specs.Store.{Types, Holds, HasState, HasType}
-use Rattle.gm_program.proofs.Answering.{answer_is, answer_length}
 use Rattle.gm_program.proofs.Changing.{type_there, read_known}
 use Rattle.gm_program.proofs.Planned.{step_refused, step_answered, executes_refused, type_of}
-use Rattle.gm_program.proofs.Planned.{are_named, any_test}
+use Rattle.gm_program.proofs.Planned.{any_test}
 
 -- the law of parts
 abbrev pub FindAll : Type 0

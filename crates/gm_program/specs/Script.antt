@@ -1,5 +1,5 @@
 -- What a run makes of a script, one of the source or one that is made.
-use Rattle.std.specs.Prelude.{◌≡◌, ◌<◌, ◌^◌, ℕ, false, List, [], ◌++◌, length, Option, Some, None}
+use Rattle.std.specs.Prelude.{◌≡◌, ◌<◌, ℕ, false, List, [], ◌++◌, length, Option, Some, None}
 use Rattle.std.specs.Prelude.{IsSome, option_map, ⊤}
 use Rattle.std.specs.Option.{ForSome}
 use Rattle.gm_program.specs.Limits.{script_limit}

@@ -1,5 +1,5 @@
 -- What serving some lines makes of the store and of the outside.
-use Rattle.std.specs.Prelude.{◌≡◌, ◌≢◌, ◌≤◌, ◌<◌, ◌+◌, ◌^◌, ℕ, List, [], ◌++◌, Option, Some, length}
+use Rattle.std.specs.Prelude.{◌≡◌, ◌≢◌, ◌≤◌, ◌<◌, ◌+◌, ℕ, List, [], ◌++◌, Option, Some, length}
 use Rattle.std.specs.Prelude.{Result, IsErrOf}
 use Rattle.std.specs.Option.{ForSome}
 use Rattle.gm_program.specs.Limits.{script_limit}

@@ -10,8 +10,7 @@ use Rattle.gm_types.specs.declared.kind.Kind.{Kind}
 use Rattle.gm_types.specs.declared.kind.Kind.TheVariants as kind
 use Rattle.gm_rows.specs.declared.fault.RowFault.{RowFault}
 use Rattle.gm_rows.specs.declared.fault.RowFault.TheVariants as fault
-use Rattle.gm_rows.specs.Reader.{value_of, values_of, before, unless_other, joined}
-use Rattle.gm_rows.specs.Reader.{attribute_kinds}
+use Rattle.gm_rows.specs.Reader.{value_of, values_of, before, unless_other, joined, attribute_kinds}
 use Rattle.gm_rows.proofs.Slices.{seen}
 
 -- the values so far before others, if these are values

@@ -1,7 +1,7 @@
 -- What is read of a row fits the type.
 use Rattle.std.proofs.Common.{◌≡◌, ℕ, Bool, true, false, ◌&&◌, List, [], ◌∷◌, length, take, drop}
 use Rattle.std.proofs.Common.{Option, Some, None, Result, Ok, Err, refl, sym, ◌∙◌, ap, subst}
-use Rattle.std.specs.Prelude.{ℤ, pos, negsuc, if◌then◌else◌, ◌^◌, ◌==◌, is_none, IfOk}
+use Rattle.std.specs.Prelude.{ℤ, pos, negsuc, if◌then◌else◌, ◌^◌, ◌==◌, is_none}
 use Rattle.std.specs.Str.Parse.{without_leading_sign, signed_digits_value}
 use Rattle.std.proofs.lemmas.Bool.{and_from}
 use Rattle.gm_base.specs.Identifier.{is_identifier}

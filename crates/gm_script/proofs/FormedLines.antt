@@ -1,5 +1,5 @@
 -- What commands on a type make of a line that has its form, and of one that has not.
-use Rattle.std.proofs.Common.{◌≡◌, ℕ, Bool, true, false, not, ◌||◌, List, [], refl, ◌∙◌, ap, inl}
+use Rattle.std.proofs.Common.{◌≡◌, ℕ, true, false, not, ◌||◌, List, [], ◌∙◌, ap, inl}
 use Rattle.std.proofs.Common.{inr, None, Result, option_map, option_and_then}
 use Rattle.std.specs.Prelude.{◌⊎◌, if◌then◌else◌, slice_get}
 use Rattle.gm_base.proofs.Booleans.{or_true}

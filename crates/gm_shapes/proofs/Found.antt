@@ -1,7 +1,6 @@
 -- What holds of each element of a list, and an element that passes a test.
 use Rattle.std.proofs.Common.{◌≡◌, Bool, true, false, ◌||◌, List, [], ◌∷◌, ◌++◌, refl, sym, ◌∙◌}
 use Rattle.std.specs.List.{list_any, AllByRecursion, count_by}
-use Rattle.gm_base.proofs.Lists.{all_append}
 use Rattle.gm_shapes.specs.Polygon.{is_odd}
 use Rattle.gm_shapes.proofs.Walks.{xor, odd_count-cons}
 

@@ -1,7 +1,7 @@
 -- Which levels qualify.
 use Rattle.std.proofs.Common.{◌≡◌, ⊎_elim, ℕ, zero, suc, ◌+◌, ◌-◌, ◌*◌, ◌<◌, ◌≤◌, List, [], ◌∷◌}
 use Rattle.std.proofs.Common.{length, refl, sym, ap, subst, arith}
-use Rattle.std.specs.Prelude.{true, false, Option, Some, None, option_to_list, All}
+use Rattle.std.specs.Prelude.{true, false, Option, Some, None, option_to_list}
 use Rattle.std.proofs.Math.Nat.{mul-le-mul_left}
 use Rattle.gm_trees.specs.declared.node.Node.{Node}
 use Rattle.gm_trees.specs.declared.window.Window.{Window}
@@ -14,8 +14,7 @@ use Rattle.gm_split.specs.declared.pieces.Piece.{Piece}
 use Rattle.gm_split.specs.declared.pieces.Piece.TheVariants.{Codes, Partial}
 use Rattle.gm_split.specs.declared.front.Front.{Front}
 use Rattle.gm_split.specs.Levels.{InLevelSet, Qualifies, IsStop}
-use Rattle.gm_split.specs.Opening.{piece_of, partials, ends, Covers, IsComing, IsPieceAt}
-use Rattle.gm_split.specs.Opening.{opened_all}
+use Rattle.gm_split.specs.Opening.{piece_of, partials, ends, Covers, IsComing, opened_all}
 use Rattle.gm_split.specs.Front.{joined, runs_behind, HasFirst, HasNext, IsStopAt}
 use Rattle.gm_split.proofs.Decomposed.{Decomposes, decomposes_start, decomposes_next, level_into}
 use Rattle.gm_split.proofs.Decomposed.{level_out, level_count, level_runs, only_runs, all_rise}

@@ -5,8 +5,7 @@ use Rattle.std.proofs.Common.{length-append}
 use Rattle.std.proofs.Math.ListN.{set}
 use Rattle.std.proofs.lemmas.List.{get_or_default}
 use Rattle.std.specs.List.{insert, remove}
-use Rattle.std.specs.Prelude.{Result, Ok, Err, OnOk, OnErr}
-use Rattle.gm_base.proofs.Options.{on_ok}
+use Rattle.std.specs.Prelude.{Result, Ok, Err, OnErr}
 use Rattle.gm_table.specs.declared.row.Row.{Row}
 use Rattle.gm_table.specs.declared.blocks.block.Block.{Block}
 use Rattle.gm_table.specs.Blocks.{pair_of, pairs_of, rows_of, lists_of, most_rows, IsPlace, IsRowAt}

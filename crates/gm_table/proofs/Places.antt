@@ -11,7 +11,6 @@ use Rattle.std.specs.List.{AllByRecursion}
 use Rattle.std.specs.List.Sorted.{IsStrictlySortedBy}
 use Rattle.std.specs.Map.{keys_of}
 use denote.Ref.{Bor}
-use Rattle.gm_base.proofs.Numbers.{le_of_not_gt}
 use Rattle.gm_table.specs.Sorted.{Rows, IsRising, between}
 use Rattle.gm_table.specs.Cursor.{pending, rows_from, rows_below, rows_after, IsClear, IsLastOf}
 

@@ -1,14 +1,12 @@
 -- Parts of a text.
-use Rattle.std.proofs.Common.{◌≡◌, ◌≢◌, ℕ, suc, ◌+◌, ◌-◌, ◌<◌, Bool, true, false, cond, List, []}
+use Rattle.std.proofs.Common.{◌≡◌, ◌≢◌, ℕ, suc, ◌+◌, ◌<◌, Bool, true, false, cond, List, []}
 use Rattle.std.proofs.Common.{◌∷◌, ◌++◌, length, take, drop, get_or, Some, None, refl, sym, ◌∙◌, ap}
 use Rattle.std.proofs.Common.{inl, inr, arith, add-one}
 use Rattle.std.specs.Prelude.{◌⊎◌, if◌then◌else◌}
 use Rattle.std.specs.List.{onto_first}
 use Rattle.std.proofs.lemmas.Bool.{eq-eqb, ne_eqb}
-use Rattle.std.proofs.lemmas.List.{take_all, length-drop}
 use Rattle.std.proofs.Math.Seq.{take-suc}
 use Rattle.gm_base.proofs.Options.{same_some}
-use Rattle.gm_base.proofs.Lists.{rest_whole}
 use Rattle.gm_types.specs.Words.{is_blank}
 use Rattle.gm_types.specs.Parts.{turned, ends_part, parts_from, parts_of, part_len, cut_once}
 use Rattle.gm_types.specs.Parts.{before_end, trimmed_end}

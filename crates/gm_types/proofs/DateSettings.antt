@@ -1,10 +1,9 @@
 -- The default date, found.
-use Rattle.std.proofs.Common.{◌≡◌, ℕ, Bool, List, Option, Some, None, sym, ◌∙◌, ap}
-use Rattle.std.specs.Prelude.{codes, option_and_then}
+use Rattle.std.proofs.Common.{◌≡◌, ℕ, List, Option, Some, None, sym, ◌∙◌, ap}
+use Rattle.std.specs.Prelude.{codes}
 use Rattle.gm_types.specs.Dates.{IsDateNamed, IsDateSetting}
-use Rattle.gm_types.specs.FeatureType.{is_met, is_date_name, is_date_kind}
-use Rattle.gm_types.specs.Specification.{Specification, kind_at, place_of_name, default_date_of}
-use Rattle.gm_types.specs.Specification.{date_named, setting_of}
+use Rattle.gm_types.specs.FeatureType.{is_met, is_date_name}
+use Rattle.gm_types.specs.Specification.{Specification, default_date_of, date_named, setting_of}
 
 pub date_standard : (t : Specification) (first : Option ℕ)
     → None ≡ setting_of t (codes "geomesa.index.dtg")

@@ -2,7 +2,7 @@
 use Rattle.std.proofs.Common.{◌≡◌, ℕ, Bool, true, false, ◌&&◌, List, [], Option, Some, None, Result}
 use Rattle.std.proofs.Common.{Ok, Err, refl, sym, ◌∙◌, ap, subst}
 use Rattle.std.specs.Prelude.{IfOk}
-use Rattle.std.proofs.lemmas.Bool.{and_parts, and_from}
+use Rattle.std.proofs.lemmas.Bool.{and_parts}
 use Rattle.gm_base.proofs.Options.{same_some}
 use Rattle.gm_types.specs.declared.attribute.Attribute.{Attribute}
 use Rattle.gm_types.specs.declared.datum.Datum.{Datum}
@@ -18,7 +18,7 @@ use Rattle.gm_types.specs.Parts.{cut_once}
 use Rattle.gm_types.specs.Reader.{value_if, attributes_of, stars_of, data_of, front_of, behind_of}
 use Rattle.gm_types.specs.Reader.{geometry_place, stars_fit, specification_from, specification_if}
 use Rattle.gm_types.specs.Reader.{outline_with, outline_of, is_consistent, consistent_only}
-use Rattle.gm_types.specs.Reader.{specification_of, IsReadAs}
+use Rattle.gm_types.specs.Reader.{specification_of}
 use Rattle.gm_types.specs.Specification.{Specification, names_of}
 use Rattle.gm_types.specs.Words.{is_name, are_distinct}
 use Rattle.gm_types.proofs.Cuts.{some_none}

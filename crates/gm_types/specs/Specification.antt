@@ -1,11 +1,10 @@
 -- What a feature type is: its specification, and what follows from it.
-use Rattle.std.specs.Prelude.{ℕ, ◌*◌, ◌+◌, ◌-◌, Bool, false, not, ◌&&◌, ◌||◌, ◌==◌, nat_le}
+use Rattle.std.specs.Prelude.{ℕ, Bool, false, not, ◌&&◌, ◌||◌, ◌==◌, nat_le}
 use Rattle.std.specs.Prelude.{if◌then◌else◌, List, [], ◌∷◌, length, map, fold, codes, position}
 use Rattle.std.specs.Prelude.{◌^◌, slice_get, Option, Some, None, option_and_then, unwrap_or}
 use Rattle.std.specs.List.{list_all}
 use Rattle.std.specs.Char.{is_ascii_digit}
-use Rattle.gm_base.specs.Ascii.{next_digit}
-use Rattle.gm_base.specs.Ascii.{digit_zero}
+use Rattle.gm_base.specs.Ascii.{next_digit, digit_zero}
 use Rattle.gm_calendar.specs.declared.period.Period.{Period}
 use Rattle.gm_calendar.specs.declared.period.Period.TheVariants.{Day, Week, Month, Year}
 use Rattle.gm_types.specs.declared.attribute.Attribute.{Attribute}

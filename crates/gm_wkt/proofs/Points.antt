@@ -10,8 +10,7 @@ use Rattle.gm_wkt.specs.Grammar.{SpellsPosition, SpellsLone, SpellsMember}
 use Rattle.gm_wkt.specs.Reader.{skip_blanks, behind, position_at, closed_at, lone_inside, lone_at}
 use Rattle.gm_wkt.specs.Reader.{opens, point_at, SpellsPoint, Starts, Ends, Takes}
 use Rattle.gm_wkt.proofs.Scans.{skip_over, skipped, ends_behind, number_starts}
-use Rattle.gm_wkt.proofs.Positions.{position_found, position_only}
-use Rattle.gm_wkt.proofs.Positions.{position_starts}
+use Rattle.gm_wkt.proofs.Positions.{position_found, position_only, position_starts}
 use Rattle.gm_wkt.proofs.Members.{list_found, list_at_front}
 
 pub behind_some : (b : ℕ) (bytes rest : List ℕ) → behind b bytes ≡ Some rest → bytes ≡ b ∷ rest

@@ -1,6 +1,6 @@
 -- What is read as a number or a position is spelled so, and the other way round.
 use Rattle.std.proofs.Common.{◌≡◌, ℕ, ◌<◌, Bool, true, false, cond, ℤ, List, [], ◌∷◌, ◌++◌, length}
-use Rattle.std.proofs.Common.{take, drop, Option, Some, None, refl, sym, ap, ◌∙◌, subst, arith}
+use Rattle.std.proofs.Common.{take, drop, Some, None, refl, sym, ap, ◌∙◌, subst, arith}
 use Rattle.std.proofs.Common.{append_assoc}
 use Rattle.std.proofs.lemmas.Bool.{and_parts}
 use Rattle.std.specs.List.{list_all}
@@ -12,8 +12,7 @@ use Rattle.gm_geom.specs.Number.{is_number_byte}
 use Rattle.gm_wkt.specs.Grammar.{is_blank, AreBlanks, coordinate_of, SpellsNumber, SpellsPosition}
 use Rattle.gm_wkt.specs.Reader.{skip_blanks, number_run, number_at, begins_blank, second_at}
 use Rattle.gm_wkt.specs.Reader.{position_at, Starts, Ends, Takes}
-use Rattle.gm_wkt.proofs.Scans.{take_run, drop_run, skip_over, blank_gap}
-use Rattle.gm_wkt.proofs.Scans.{number_starts, blank_ends}
+use Rattle.gm_wkt.proofs.Scans.{take_run, drop_run, skip_over, blank_gap, number_starts, blank_ends}
 
 -- numbers
 number_found : (text : List ℕ) (r : ℤ × List ℕ) → number_at text ≡ Some r

@@ -1,10 +1,10 @@
 -- Runs of bytes at the front of a text.
-use Rattle.std.proofs.Common.{◌≡◌, ℕ, zero, suc, ◌+◌, ◌<◌, Bool, true, false, ◌&&◌, cond, List, []}
+use Rattle.std.proofs.Common.{◌≡◌, ℕ, suc, ◌+◌, ◌<◌, Bool, true, false, ◌&&◌, cond, List, []}
 use Rattle.std.proofs.Common.{◌∷◌, ◌++◌, length, take, drop, refl, sym, ap, ◌∙◌, arith}
 use Rattle.std.proofs.lemmas.Bool.{and_parts}
 use Rattle.std.specs.List.{list_all, prefix_len}
 use Rattle.std.proofs.lemmas.Bool.Decides.{nat_tests}
-use Rattle.gm_base.proofs.Lists.{take_front, drop_front, passes_next, run_passes, take_drop}
+use Rattle.gm_base.proofs.Lists.{take_front, drop_front, run_passes, take_drop}
 use Rattle.gm_geom.specs.Number.{is_number_byte}
 use Rattle.gm_wkt.specs.Grammar.{is_blank, AreBlanks}
 use Rattle.gm_wkt.specs.Reader.{skip_blanks, Stops, Ends, Starts, begins_blank}

@@ -1,7 +1,6 @@
-use Rattle.std.proofs.Common.{◌≡◌, ◌∙◌, ap, Some, None, sym}
+use Rattle.std.proofs.Common.{◌≡◌, Some}
 use Rattle.std.proofs.lemmas.Result.{err_from_is_err_and}
-use Rattle.gm_ecql.specs.declared.halt.Halt.{Halt}
-use Rattle.gm_ecql.specs.Change.{assigned_seen, given_seen, change_seen, assignment_tokens_at}
+use Rattle.gm_ecql.specs.Change.{assigned_seen, given_seen, assignment_tokens_at}
 use Rattle.gm_ecql.specs.Judging.{found_seen, faults_seen}
 use Rattle.gm_ecql.specs.Token.{seen_all}
 use Rattle.gm_ecql.proofs.ChangeSteps.{seen_none, seen_some, front_halts, assigned_halts}

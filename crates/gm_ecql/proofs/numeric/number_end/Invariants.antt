@@ -1,4 +1,4 @@
-use Rattle.std.proofs.Common.{◌≡◌, ◌+◌, drop, true}
+use Rattle.std.proofs.Common.{◌≡◌, drop, true}
 use Rattle.gm_ecql.specs.Scanner.{number_end}
 use Rattle.gm_ecql.proofs.numeric.number_end.Given as goal
 

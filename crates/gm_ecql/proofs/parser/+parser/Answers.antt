@@ -1,5 +1,4 @@
-use Rattle.std.proofs.Common.{◌≤◌, ◌<◌, ◌∙◌, [], length, map, option_map, Some, None, sym, ap}
-use Rattle.std.proofs.Common.{arith}
+use Rattle.std.proofs.Common.{◌≤◌, ◌<◌, ◌∙◌, length, map, option_map, Some, sym, ap, arith}
 use Rattle.std.proofs.lemmas.Result.{err_from_is_err_and}
 use Rattle.gm_filter.specs.Tree.{tree, all, any}
 use Rattle.gm_ecql.specs.declared.keyword.Keyword.TheVariants as keyword

@@ -1,4 +1,4 @@
-use Rattle.std.proofs.Common.{◌≡◌, ◌+◌, ◌<◌, drop, true, false}
+use Rattle.std.proofs.Common.{◌≡◌, ◌<◌, drop, true, false}
 use Rattle.gm_ecql.specs.Scanner.{text_end}
 use Rattle.gm_ecql.proofs.quoted.text_end.Given as goal
 

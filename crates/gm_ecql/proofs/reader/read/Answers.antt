@@ -1,5 +1,5 @@
 use Rattle.gm_ecql.specs.declared.token.Spaced.{Spaced}
-use Rattle.std.proofs.Common.{Vec, Global, ◌≡◌, map, sym, ap, subst, ◌∙◌}
+use Rattle.std.proofs.Common.{Vec, Global, map, sym, ap, subst, ◌∙◌}
 use Rattle.std.specs.Prelude.{Ok, Err}
 use Rattle.std.proofs.lemmas.Result.{err_from_is_err_and}
 use Rattle.gm_filter.specs.declared.filter.Filter.{Filter}

@@ -1,6 +1,6 @@
-use Rattle.std.proofs.Common.{◌≡◌, Some, map, sym, ap, ◌∙◌}
+use Rattle.std.proofs.Common.{map, sym, ap, ◌∙◌}
 use Rattle.gm_ecql.specs.Limits.{are_numbers_apart}
-use Rattle.gm_ecql.specs.Token.{seen_spaced, seen_all, unspaced}
+use Rattle.gm_ecql.specs.Token.{seen_spaced, seen_all}
 use Rattle.gm_ecql.proofs.Outcomes.{unspaced_seen}
 use Rattle.gm_ecql.proofs.Steps.{over_limits, too_close, all_kept}
 use Rattle.gm_ecql.proofs.reader.sound_tokens.Goals as goal

@@ -1,8 +1,7 @@
-use Rattle.std.proofs.Common.{◌≡◌, ◌≢◌, List, Bool, ◌∷◌, [], ◌++◌, map, option_map, ℕ, ◌<◌, ◌≤◌}
-use Rattle.std.proofs.Common.{length, drop, nat_lt, sym, refl, ap, ◌∙◌, arith}
-use Rattle.gm_ecql.specs.Token.{Seen, Spells, seen, seen_spaced}
+use Rattle.std.proofs.Common.{map, nat_lt, sym, refl, ap, ◌∙◌}
+use Rattle.gm_ecql.specs.Token.{seen, seen_spaced}
 use Rattle.gm_ecql.specs.Scanner.{token_at}
-use Rattle.gm_ecql.proofs.Lists.{Keeps, keeps_step, keeps_none, keeps_end, token_shorter}
+use Rattle.gm_ecql.proofs.Lists.{keeps_step, keeps_none, keeps_end, token_shorter}
 use Rattle.gm_ecql.proofs.Lists.{mapped_push, empty_list, some_list}
 use Rattle.gm_ecql.proofs.scanner.tokens_from.Goals as goal
 

@@ -1,12 +1,11 @@
-use Rattle.std.proofs.Common.{◌<◌, length, map, option_map, Some, sym, ◌∙◌, ap, arith, subst, []}
-use Rattle.std.proofs.Common.{true, false}
+use Rattle.std.proofs.Common.{◌<◌, length, Some, sym, ◌∙◌, ap, arith, true, false}
 use Rattle.std.proofs.lemmas.Result.{err_from_is_err_and}
 use Rattle.gm_ecql.specs.declared.token.Symbol.TheVariants as symbol
 use Rattle.gm_ecql.specs.Reader.{◌>>=◌, after_symbol, constant_at, constants_at, separator_at}
 use Rattle.gm_ecql.specs.Reader.{members_at}
 use Rattle.gm_ecql.specs.Test.{constant_seen}
-use Rattle.gm_ecql.specs.Token.{seen_all, undoubled}
-use Rattle.gm_ecql.proofs.Gathering.{Gathering, gathering_start, gathering_more, gathering_end}
+use Rattle.gm_ecql.specs.Token.{seen_all}
+use Rattle.gm_ecql.proofs.Gathering.{gathering_start, gathering_more, gathering_end}
 use Rattle.gm_ecql.proofs.Gathering.{gathering_none, gathering_open, map_push, not_there, there}
 use Rattle.gm_ecql.proofs.Gathering.{halts_none, constant_turn}
 use Rattle.gm_ecql.proofs.Turns.{seen_length}

@@ -1,4 +1,4 @@
-use Rattle.std.proofs.Common.{◌≡◌, IfOk, sym, subst}
+use Rattle.std.proofs.Common.{IfOk, sym, subst}
 use Rattle.gm_script.specs.declared.command.Command.{Command}
 use Rattle.gm_script.specs.Order.{order_of}
 use Rattle.gm_program.specs.Refusals.{IsRefusal}

@@ -1,10 +1,7 @@
-use Rattle.std.proofs.Common.{rules, ◌≡◌, ◌++◌, ◌∙◌, ap, codes}
-use Rattle.std.specs.Fmt.{decimal}
+use Rattle.std.proofs.Common.{rules, ◌≡◌, ◌++◌, codes}
 use Rattle.std.specs.String.{string_bytes}
-use Rattle.gm_calendar.specs.Spelling.{instant_text}
 use Rattle.gm_geom.specs.Number.{fixed_text}
-use Rattle.gm_program.specs.Generator.{behind, centred, drawn, line, next, place_text, put_line}
-use Rattle.gm_program.specs.Generator.{second_of_2020}
+use Rattle.gm_program.specs.Generator.{centred, line}
 use Rattle.gm_program.proofs.Joins.{before}
 use Rattle.gm_program.proofs.generator.append_place.Goals as goal
 

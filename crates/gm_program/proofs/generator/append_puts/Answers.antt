@@ -1,6 +1,6 @@
-use Rattle.std.proofs.Common.{◌≡◌, ◌+◌, ◌-◌, ◌++◌, ◌∙◌, ap}
+use Rattle.std.proofs.Common.{◌+◌, ◌-◌, ◌++◌, ◌∙◌, ap}
 use Rattle.std.specs.String.{string_bytes}
-use Rattle.gm_program.specs.Generator.{behind, put_lines}
+use Rattle.gm_program.specs.Generator.{put_lines}
 use Rattle.gm_program.proofs.Joins.{put_next}
 use Rattle.gm_program.proofs.generator.append_puts.Goals as goal
 

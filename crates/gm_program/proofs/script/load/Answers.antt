@@ -1,4 +1,4 @@
-use Rattle.std.proofs.Common.{◌≡◌, [], ap, ◌∙◌}
+use Rattle.std.proofs.Common.{[], ap, ◌∙◌}
 use Rattle.gm_program.specs.Lines.{complete_from}
 use Rattle.gm_program.proofs.Making.{loading_lines, serves_as}
 use Rattle.gm_program.proofs.Streaming.{on_ok}

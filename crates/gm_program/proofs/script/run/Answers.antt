@@ -1,10 +1,9 @@
-use Rattle.std.proofs.Common.{◌≡◌, [], length, ap, sym, ◌∙◌, inl, inr, ⊎_elim, arith, refl, subst}
+use Rattle.std.proofs.Common.{[], length, ap, sym, ◌∙◌, inl, inr, ⊎_elim, arith, refl, subst}
 use Rattle.std.proofs.Common.{length-append, Some, None}
 use Rattle.std.proofs.lemmas.Result.{IfErr-at_err}
 use Rattle.gm_base.proofs.Options.{same_some}
 use Rattle.gm_program.specs.Machine.{output}
 use Rattle.gm_program.specs.Script.{CanBeRead, setting_of}
-use Rattle.gm_program.specs.Serve.{WritesPart}
 use Rattle.gm_program.specs.Words.{options_of}
 use Rattle.gm_program.proofs.Asked.{asked, none_asked, usage_asked, source_asked, from_mapped}
 use Rattle.gm_program.proofs.Asked.{on_made_done, on_made_write, either_made, made_ends}

@@ -1,4 +1,4 @@
-use Rattle.std.proofs.Common.{◌≡◌, ◌∙◌, refl, subst}
+use Rattle.std.proofs.Common.{◌∙◌, refl, subst}
 use Rattle.gm_program.specs.declared.pending.Pending.TheVariants.{Nothing}
 use Rattle.gm_program.specs.Lines.{lines_of}
 use Rattle.gm_program.specs.Machine.{machine_at}

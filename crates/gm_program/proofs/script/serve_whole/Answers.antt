@@ -1,5 +1,5 @@
 use Rattle.std.proofs.Common.{[], sym, ◌∙◌}
-use Rattle.gm_program.specs.Lines.{complete_from, partial_from, cut}
+use Rattle.gm_program.specs.Lines.{complete_from, partial_from}
 use Rattle.gm_program.specs.Machine.{after}
 use Rattle.gm_program.proofs.Cutting.{cut-none}
 use Rattle.gm_program.proofs.Making.{part_at_end, part_of_whole, whole_served}

@@ -1,5 +1,4 @@
-use Rattle.std.proofs.Common.{◌≡◌, ◌≤◌, List, refl, ap, ◌∙◌, inl, inr, false, Bool, true, length}
-use Rattle.std.proofs.Common.{Ok}
+use Rattle.std.proofs.Common.{◌≡◌, ◌≤◌, List, refl, ap, ◌∙◌, inl, inr, length, Ok}
 use Rattle.std.specs.Prelude.{codes, if◌then◌else◌, ◌&&◌, ◌⊎◌, is_some, nat_lt}
 use Rattle.std.proofs.lemmas.Bool.{lt-ltb, le-ltb}
 use Rattle.gm_base.proofs.Booleans.{and_false}

@@ -1,5 +1,5 @@
 use Rattle.std.proofs.Common.{◌≡◌, ℕ, Bool, true, false, List, [], ◌∷◌, refl, sym, ap, ◌∙◌, Ok}
-use Rattle.std.proofs.Common.{append-nil, ◌||◌}
+use Rattle.std.proofs.Common.{append-nil}
 use Rattle.std.specs.Prelude.{codes, if◌then◌else◌, length}
 use Rattle.std.specs.List.{list_any}
 use Rattle.std.specs.Str.{is_utf8}

@@ -1,5 +1,4 @@
-use Rattle.std.proofs.Common.{◌≡◌, Some, IfOk, ℕ, subst}
-use Rattle.std.specs.Prelude.{slice_get}
+use Rattle.std.proofs.Common.{IfOk, ℕ, subst}
 use Rattle.gm_program.specs.Serve.{Executes}
 use Rattle.gm_program.specs.Step.{delete_step}
 use Rattle.gm_program.proofs.Changing.{type_there, read_within}

@@ -1,6 +1,4 @@
-use Rattle.std.proofs.Common.{◌≡◌, ◌∙◌, ◌+◌, ◌++◌, [], drop, map, refl, sym, ap, arith}
-use Rattle.std.proofs.lemmas.List.{append-nil}
-use Rattle.gm_strategy.specs.Choice.{chosen_of}
+use Rattle.std.proofs.Common.{◌+◌, arith}
 use Rattle.gm_program.specs.Question.{plan_lines}
 use Rattle.gm_program.proofs.Parts.{served_at, lines_next}
 use Rattle.gm_program.proofs.execute.explain.plan_lines.Goals as goal

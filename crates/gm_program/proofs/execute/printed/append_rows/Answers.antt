@@ -1,5 +1,4 @@
-use Rattle.std.proofs.Common.{◌≡◌, ◌∙◌, ◌++◌, ◌+◌, List, [], ℕ, take, map, length, sym, ap, arith}
-use Rattle.std.proofs.Common.{Bor}
+use Rattle.std.proofs.Common.{◌∙◌, ◌++◌, ◌+◌, List, [], ℕ, take, ap, arith, Bor}
 use Rattle.std.proofs.lemmas.List.{take_all}
 use Rattle.std.proofs.lemmas.List.Elements.{recursion_from_All}
 use Rattle.std.specs.List.{flat_map}

@@ -1,5 +1,4 @@
-use Rattle.std.proofs.Common.{◌≡◌, ◌∙◌, length, not, Option, Some, None, is_some, refl, sym, ap}
-use Rattle.std.proofs.Common.{subst}
+use Rattle.std.proofs.Common.{◌≡◌, ◌∙◌, length, Some, None, is_some, refl, sym, ap, subst}
 use Rattle.std.specs.Prelude.{Bool, true, false, if◌then◌else◌}
 use Rattle.std.specs.Option.{option_copied}
 use Rattle.gm_base.proofs.Booleans.{true_of_not, false_of_not}

@@ -1,4 +1,4 @@
-use Rattle.std.proofs.Common.{◌≡◌, ◌∙◌, Some, map, length, sym, ap, subst}
+use Rattle.std.proofs.Common.{◌≡◌, Some, map, sym, subst}
 use Rattle.std.specs.Prelude.{All}
 use Rattle.gm_filter.specs.Suitability.{Suits}
 use Rattle.gm_engine_rows.specs.State.{type_at}

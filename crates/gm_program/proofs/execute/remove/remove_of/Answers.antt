@@ -1,4 +1,4 @@
-use Rattle.std.proofs.Common.{◌≡◌, ◌∙◌, None, subst}
+use Rattle.std.proofs.Common.{◌∙◌, None, subst}
 use Rattle.gm_filter.specs.Tree.{tree}
 use Rattle.gm_script.specs.Order.{Asked, asked_by}
 use Rattle.gm_program.specs.declared.execute.matched.Matched.{Matched}
