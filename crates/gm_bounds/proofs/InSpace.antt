@@ -3,7 +3,7 @@ use Rattle.std.proofs.Common.{◌≡◌, ℕ, Bool, true, false, ◌&&◌, ◌||
 use Rattle.std.proofs.Common.{◌∙◌, true≢false, Option, Some, None, arith, subst}
 use Rattle.std.proofs.lemmas.Bool.{and_parts, and_from}
 use Rattle.std.proofs.lemmas.Int.{ints, clamps}
-use Rattle.std.specs.Prelude.{int_le, int_lt, ◌≤ℤ◌, IsSome, option_and_then}
+use Rattle.std.specs.Prelude.{int_le, int_lt, ◌≤ℤ◌, option_and_then}
 use Rattle.gm_base.proofs.Numbers.{le_from, le_to}
 use Rattle.gm_base.proofs.Options.{none_is}
 use Rattle.gm_geom.specs.declared.point.Point.{Point}
@@ -12,7 +12,7 @@ use Rattle.gm_geom.specs.declared.geometry.Geometry.{Geometry}
 use Rattle.gm_geom.specs.declared.geometry.Geometry.TheVariants as geo
 use Rattle.gm_geom.specs.Geometry.{points_of}
 use Rattle.gm_geom.specs.Validity.{fault_of, is_in_world}
-use Rattle.gm_geom.specs.Extent.{HoldsAll, extent_of}
+use Rattle.gm_geom.specs.Extent.{HoldsAll, IsLeastBox, extent_of}
 use Rattle.gm_shapes.specs.Segment.{do_overlap, reaches}
 use Rattle.gm_shapes.specs.Meeting.{do_intersect, box_area}
 use Rattle.gm_shapes.specs.Meeting as meeting
@@ -39,12 +39,14 @@ use Rattle.gm_bounds.specs.ClosedBox.{met, joined, is_void, is_in_box, is_found_
 use Rattle.gm_bounds.specs.ClosedBox.{extent_overlaps}
 use Rattle.gm_bounds.specs.Found.{IsFound}
 use Rattle.gm_bounds.specs.Lists.{single}
-use Rattle.gm_bounds.proofs.Extents.{extent_is_least, extent_some}
 use Rattle.gm_bounds.proofs.Sound.{Widens, Narrows, AreFull, IsSoundFor, meeting_finds}
 use Rattle.gm_bounds.proofs.Sound.{capped_finds, single_finds, on_finds, found}
 
--- what the crates below say of meeting, and of the values of a feature that fits
+-- what the crates below say of extents, of meeting, and of the values of a feature that fits
 pub record SpaceLaws : Type 0 where
+  pub extent : (g : Geometry) → fault_of g ≡ None
+      → (e : Box2) × (extent_of (points_of g) ≡ Some e)
+  pub least : (points : List Point) (e : Box2) → extent_of points ≡ Some e → IsLeastBox e points
   pub overlap : (one two : Geometry) (b c : Box2) → fault_of one ≡ None → fault_of two ≡ None
       → HoldsAll b (points_of one) → HoldsAll c (points_of two) → do_intersect one two ≡ true
       → do_overlap b c ≡ true
@@ -213,18 +215,11 @@ geometry_found (geo.ManyLines lines) e b is h =
 geometry_found (geo.ManyAreas areas) e b is h =
     extent_found (points_of (geo.ManyAreas areas)) e b is h
 
-some_is : {A : Type 0} (o : Option A) → IsSome o → (x : A) × (o ≡ Some x)
-some_is None h = absurd (cc)
-some_is (Some x) h = (x, refl)
-
-extent_there : (g : Geometry) → fault_of g ≡ None → (e : Box2) × (extent_of (points_of g) ≡ Some e)
-extent_there g kept = some_is (extent_of (points_of g)) (extent_some g kept)
-
 -- an extent does not end before it begins
-extent_full : (points : List Point) (e : Box2) → extent_of points ≡ Some e → is_void e ≡ false
-extent_full [] e is = absurd (cc)
-extent_full (p ∷ points) e is =
-    let least = extent_is_least (p ∷ points) e is in
+extent_full : (points : List Point) (e : Box2) → IsLeastBox e points → extent_of points ≡ Some e
+    → is_void e ≡ false
+extent_full [] e least is = absurd (cc)
+extent_full (p ∷ points) e least is =
     let first = least.holds.0 in
     not_void e (omega (arith, ints, first.left, first.right))
     (omega (arith, ints, first.below, first.above))
@@ -251,9 +246,9 @@ module _ (laws : SpaceLaws) where
       (and_parts (is_in_world b.low && is_in_world b.high) _ is).1 in
       let across = le_from b.low.x b.high.x rises.0 in
       let along = le_from b.low.y b.high.y rises.1 in
-      let extent = extent_there g kept in
+      let extent = laws.extent g kept in
       let overlap = laws.overlap_box g extent.0 b kept
-      (extent_is_least (points_of g) extent.0 extent.1).holds across along h in
+      (laws.least (points_of g) extent.0 extent.1).holds across along h in
       single_finds (is_geometry_in (value.Geo g)) is_void b (not_void b across along)
       (geometry_found g extent.0 b extent.1 overlap)
   box_found _ b kept is h = absurd (true≢false (sym h))
@@ -261,16 +256,16 @@ module _ (laws : SpaceLaws) where
   literal_found : (v : Value) (h : Geometry) → IsKeptValue v → fault_of h ≡ None → meets v h ≡ true
       → IsFound (is_geometry_in v) (box_of h)
   literal_found (value.Geo g) h kept literal_kept e =
-      let extent = extent_there g kept in
-      let other = extent_there h literal_kept in
+      let extent = laws.extent g kept in
+      let other = laws.extent h literal_kept in
       let overlap = laws.overlap g h extent.0 other.0 kept literal_kept
-      (extent_is_least (points_of g) extent.0 extent.1).holds
-      (extent_is_least (points_of h) other.0 other.1).holds e in
+      (laws.least (points_of g) extent.0 extent.1).holds
+      (laws.least (points_of h) other.0 other.1).holds e in
       let Found : Option Box2 → Type 0 =
       λ o. IsFound (is_geometry_in (value.Geo g)) (box_of_extent o) in
       subst Found (sym other.1)
       (single_finds (is_geometry_in (value.Geo g)) is_void other.0
-      (extent_full (points_of h) other.0 other.1)
+      (extent_full (points_of h) other.0 (laws.least (points_of h) other.0 other.1) other.1)
       (geometry_found g extent.0 other.0 extent.1 overlap))
   literal_found _ h kept literal_kept e = absurd (true≢false (sym e))
 

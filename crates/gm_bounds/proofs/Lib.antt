@@ -1,4 +1,3 @@
-pub mod Extents
 pub mod Few
 pub mod IdBounds
 pub mod Risings

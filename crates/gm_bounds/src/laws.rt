@@ -26,6 +26,7 @@ ghost use Rattle.gm_bounds.specs.OneValue.{IsOfOneValue, is_of_one_value};
 
 use gm_feature::fitting_features_have_values;
 use gm_filter::like_begins;
+use gm_geom::extents_are_least;
 use gm_lexi::{
     begins_where_within, fronts_decide, no_value_is_a_front, numbers_as_places, values_in_order,
 };
@@ -38,6 +39,7 @@ pub fn geometries_are_in_boxes()
         → is_true f t ≡ true
         → default_geometry_of s ≡ Some d → IsFound (is_geometry_in (value_at f d)) (boxes_of s t) }
 {
+    extents_are_least();
     overlaps_where_meeting();
     overlaps_a_box_it_meets();
     meets_where_within();

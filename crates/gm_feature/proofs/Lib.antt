@@ -1,4 +1,3 @@
-pub mod Boxes
 pub mod Contents
 pub mod Fields
 pub mod Fitting

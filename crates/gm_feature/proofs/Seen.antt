@@ -1,10 +1,9 @@
 -- What is seen in place, and the values that it says.
-use Rattle.std.proofs.Common.{◌≡◌, ◌≢◌, ℕ, zero, suc, ◌<◌, ◌≤◌, ℤ, true, false, ◌||◌, List, [], ◌∷◌}
-use Rattle.std.proofs.Common.{◌++◌, length, fold, take, drop, get_or, Option, Some, None, refl, sym}
+use Rattle.std.proofs.Common.{◌≡◌, ◌≢◌, ℕ, zero, suc, ◌<◌, ◌≤◌, ℤ, true, false, List, [], ◌∷◌}
+use Rattle.std.proofs.Common.{◌++◌, length, take, drop, get_or, Option, Some, None, refl, sym}
 use Rattle.std.proofs.Common.{ap, subst, ◌∙◌, append-nil, arith}
 use Rattle.std.specs.Int.{w64, cast_signed, cast_unsigned}
 use Rattle.std.specs.Int.RustNames.{FitsSigned}
-use Rattle.std.specs.List.{list_any}
 use Rattle.std.specs.Option.{ForSome}
 use Rattle.std.specs.Prelude.{is_none, if◌then◌else◌}
 use Rattle.std.proofs.lemmas.Int.{to_z-of_z}
@@ -12,11 +11,8 @@ use Rattle.gm_base.proofs.Booleans.{both_of}
 use Rattle.gm_calendar.specs.Instant.{is_instant, instant_at}
 use Rattle.gm_geom.specs.declared.geometry.Geometry.{Geometry}
 use Rattle.gm_geom.specs.declared.geometry.Geometry.TheVariants as geo
-use Rattle.gm_geom.specs.declared.point.Box2.{Box2}
 use Rattle.gm_geom.specs.declared.point.Point.{Point}
-use Rattle.gm_geom.specs.Extent.{widened, extent_of}
-use Rattle.gm_geom.specs.Geometry.{joined, points_of}
-use Rattle.gm_geom.specs.Validity.{fault_of, has_empty_list, is_empty, is_hollow}
+use Rattle.gm_geom.specs.Validity.{fault_of}
 use Rattle.gm_types.specs.declared.attribute.Attribute.{Attribute}
 use Rattle.gm_types.specs.declared.kind.GeoKind.TheVariants as shape
 use Rattle.gm_feature.specs.declared.cursor.StoredValues.{StoredValues}
@@ -33,7 +29,6 @@ use Rattle.gm_feature.specs.Value.{value_fits, is_of_kind, is_sound}
 use Rattle.gm_feature.proofs.Contents.{instant_fits, value_again}
 use Rattle.gm_feature.proofs.Fields.{made_some}
 use Rattle.gm_feature.proofs.Fitting.{kinds}
-use Rattle.gm_feature.proofs.Kept.{kept}
 use Rattle.gm_feature.proofs.Shapes.{geometry_again}
 use Rattle.gm_feature.proofs.Wholes.{identifier_again}
 
@@ -76,46 +71,6 @@ not_point (geo.ManyAreas p) differ = refl
 pub first_byte : (bytes rest : List ℕ) (g : Geometry) → bytes ≡ geometry_bytes g ++ rest
     → get_or bytes 0 0 ≡ shape_byte g
 first_byte bytes rest g e = ap (λ (b : List ℕ). get_or b 0 0) e
-
-abbrev IsInhabited : List Point → Type 0
-IsInhabited points = (p : Point) × (others : List Point) × (points ≡ p ∷ others)
-
-full_points : (points : List Point) → is_empty points ≡ false → IsInhabited points
-full_points [] e = absurd cc
-full_points (p ∷ ps) e = (p, ps, refl)
-
-full_lists : (lists : List (List Point)) → is_hollow lists ≡ false → IsInhabited (joined lists)
-full_lists [] e = absurd cc
-full_lists ([] ∷ lists) e = absurd cc
-full_lists ((p ∷ ps) ∷ lists) e = (p, ps ++ joined lists, refl)
-
-full_areas : (areas : List (List (List Point)))
-    → (is_empty areas || list_any is_hollow areas) ≡ false → IsInhabited (joined (joined areas))
-full_areas [] e = absurd cc
-full_areas ([] ∷ areas) e = absurd cc
-full_areas (([] ∷ rings) ∷ areas) e = absurd cc
-full_areas (((p ∷ ps) ∷ rings) ∷ areas) e = (p, ps ++ joined (rings ++ joined areas), refl)
-
-full : (g : Geometry) → has_empty_list g ≡ false → IsInhabited (points_of g)
-full (geo.Point p) e = (p, [], refl)
-full (geo.Line points) e = full_points points e
-full (geo.Area rings) e = full_lists rings e
-full (geo.ManyPoints points) e = full_points points e
-full (geo.ManyLines lines) e = full_lists lines e
-full (geo.ManyAreas areas) e = full_areas areas e
-
-abbrev nothing : Option Box2
-nothing = None
-
-still_some : (points : List Point) (box : Box2) → fold widened (Some box) points ≡ nothing → ⊥
-still_some [] box e = absurd cc
-still_some (p ∷ points) box e = still_some points _ e
-
--- a geometry that is kept has an extent
-pub has_extent : (g : Geometry) → fault_of g ≡ None → extent_of (points_of g) ≡ nothing → ⊥
-has_extent g fine none =
-    let points = full g (kept g fine).filled in
-    still_some points.1 _ (ap (λ (ps : List Point). extent_of ps) (sym points.2) ∙ none)
 
 -- a geometry that is kept is read of its own bytes
 pub whole_again : (g : Geometry) (bytes : List ℕ) → fault_of g ≡ None → bytes ≡ geometry_bytes g

@@ -23,7 +23,7 @@ use crate::skips::skip_values;
 use crate::spans::span_at;
 use gm_base::NoMemory;
 use gm_calendar::Instant;
-use gm_geom::{Box2, Geometry, Point};
+use gm_geom::{Box2, Geometry, Point, extents_are_least};
 use gm_types::{FeatureType, GeoKind, Kind};
 use std::alloc::Global;
 
@@ -184,6 +184,7 @@ fn stored_lists(bytes: &[u8], extent: Option<Box2>, behind: usize) -> StoredValu
         → behind ≡ length rest → fault_of g ≡ None → is_point g ≡ false
         → extent ≡ extent_of (points_of g) → Says result (value.Geo g) }
 {
+    extents_are_least();
     match extent {
         None => StoredValue::Null,
         Some(bounds) => {

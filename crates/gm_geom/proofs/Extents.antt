@@ -1,6 +1,6 @@
 -- The extent of a list of points is its least box.
 use Rattle.std.proofs.Common.{◌≡◌, Bool, true, false, ◌||◌, if◌then◌else◌, List, [], ◌∷◌, ◌++◌}
-use Rattle.std.proofs.Common.{Some, None, fold, refl, sym, subst, arith, rules}
+use Rattle.std.proofs.Common.{Option, Some, None, fold, refl, sym, subst, arith, rules}
 use Rattle.std.specs.Option.{IsSome}
 use Rattle.std.specs.List.{list_any}
 use Rattle.std.proofs.lemmas.Int.{ints, clamps}
@@ -148,3 +148,12 @@ extent_some geometry kept =
     let some : IsInhabited (points_of geometry) = full geometry (third _ _ _ _ kept) in
     let P : List Point → Type 0 = λ points. IsSome (extent_of points) in
     subst P (sym some.2) (grown_some (record { low = some.0; high = some.0 }) some.1)
+
+some_is : {A : Type 0} (o : Option A) → IsSome o → (x : A) × (o ≡ Some x)
+some_is None h = absurd (cc)
+some_is (Some x) h = (x, refl)
+
+pub extent_there : (geometry : Geometry) → fault_of geometry ≡ None
+    → (extent : Box2) × (extent_of (points_of geometry) ≡ Some extent)
+extent_there geometry kept =
+    some_is (extent_of (points_of geometry)) (extent_some geometry kept)

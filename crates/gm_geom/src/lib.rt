@@ -11,7 +11,7 @@ mod validity;
 
 pub use extent::{bounds, high_corner, low_corner};
 pub use geometry::{Areas, Geometry, Lines, Points, Rings};
-pub use laws::{has_number_bytes, numbers_are_spelled, reads_back};
+pub use laws::{extents_are_least, has_number_bytes, numbers_are_spelled, reads_back};
 pub use number::{NUMBER_LIMIT, NumberFault, read_fixed};
 pub use point::{Box2, Point};
 pub use printer::{append_fixed, print_fixed};

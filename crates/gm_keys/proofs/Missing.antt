@@ -1,12 +1,12 @@
 -- Which features have no key in an index.
 use Rattle.std.proofs.Common.{◌≡◌, ℕ, zero, suc, Bool, true, false, not, ◌||◌, List, [], ◌∷◌, ◌++◌}
-use Rattle.std.proofs.Common.{fold, get_or, Option, Some, None, is_some, is_none, option_map}
+use Rattle.std.proofs.Common.{get_or, Option, Some, None, is_some, is_none, option_map}
 use Rattle.std.proofs.Common.{option_and_then, option_to_list, refl, sym, ap, ◌∙◌}
-use Rattle.std.specs.Prelude.{slice_get, if◌then◌else◌}
+use Rattle.std.specs.Prelude.{slice_get}
 use Rattle.std.specs.List.{list_any}
 use Rattle.gm_base.proofs.Booleans.{both_of}
 use Rattle.gm_base.proofs.Options.{none_is}
-use Rattle.gm_base.proofs.Booleans.{neither_of, or_false}
+use Rattle.gm_base.proofs.Booleans.{or_false}
 use Rattle.gm_calendar.specs.Bin.{bin_at}
 use Rattle.gm_calendar.specs.declared.bin.Bin.{Bin}
 use Rattle.gm_calendar.specs.declared.period.Period.{Period}
@@ -14,11 +14,9 @@ use Rattle.gm_geom.specs.declared.geometry.Geometry.{Geometry}
 use Rattle.gm_geom.specs.declared.geometry.Geometry.TheVariants as geo
 use Rattle.gm_geom.specs.declared.point.Point.{Point}
 use Rattle.gm_geom.specs.declared.point.Box2.{Box2}
-use Rattle.gm_geom.specs.declared.validity.GeomFault.{GeomFault}
-use Rattle.gm_geom.specs.declared.validity.GeomFault.TheVariants.{Many, Range, Short}
-use Rattle.gm_geom.specs.Extent.{widened, extent_of}
-use Rattle.gm_geom.specs.Geometry.{points_of, joined}
-use Rattle.gm_geom.specs.Validity.{fault_of, has_empty_list, is_empty, is_hollow}
+use Rattle.gm_geom.specs.Extent.{extent_of}
+use Rattle.gm_geom.specs.Geometry.{points_of}
+use Rattle.gm_geom.specs.Validity.{fault_of}
 use Rattle.gm_types.specs.declared.index.IndexKind.{IndexKind}
 use Rattle.gm_types.specs.declared.index.IndexKind.TheVariants.{Id, Z2, Z3, Xz2, Xz3, Attr}
 use Rattle.gm_types.specs.declared.kind.GeoKind.{GeoKind}
@@ -40,65 +38,14 @@ use Rattle.gm_keys.specs.Whereabouts.{geometry_of, instant_of, point_of, box_of,
 use Rattle.gm_keys.specs.Whereabouts.{bin_in, is_null, lacks_value}
 use Rattle.gm_keys.specs.Key.{form_of, front_of, key_of}
 
--- ---- extents
-short_is : (many all short : Bool) (rest : Option GeomFault)
-    → (if many then Some Many
-    else (if not all then Some Range else (if short then Some Short else rest))) ≡ None
-    → short ≡ false
-short_is true all short rest none = cc
-short_is false false short rest none = cc
-short_is false true true rest none = cc
-short_is false true false rest none = refl
-
-some_left : {A : Type 0} (xs ys : List A) → is_empty xs ≡ false → is_empty (xs ++ ys) ≡ false
-some_left [] ys some = cc
-some_left (x ∷ xs) ys some = refl
-
-some_joined : {A : Type 0} (lists : List (List A)) → is_hollow lists ≡ false
-    → is_empty (joined lists) ≡ false
-some_joined [] some = cc
-some_joined (xs ∷ lists) some = some_left xs (joined lists) (neither_of _ _ some).0
-
-some_joined_twice : {A : Type 0} (lists : List (List (List A)))
-    → (is_empty lists || list_any is_hollow lists) ≡ false
-    → is_empty (joined (joined lists)) ≡ false
-some_joined_twice [] some = cc
-some_joined_twice ([] ∷ lists) some = cc
-some_joined_twice ((xs ∷ inner) ∷ lists) some =
-    let here = (neither_of _ _ some).0 in
-    let first = (neither_of _ _ here).0 in
-    some_left xs (joined (inner ++ joined lists)) first
-
-some_points : (g : Geometry) → has_empty_list g ≡ false → is_empty (points_of g) ≡ false
-some_points (geo.Point p) some = refl
-some_points (geo.Line points) some = some
-some_points (geo.Area rings) some = some_joined rings some
-some_points (geo.ManyPoints points) some = some
-some_points (geo.ManyLines lines) some = some_joined lines some
-some_points (geo.ManyAreas areas) some = some_joined_twice areas some
-
-stays_some : (points : List Point) (box : Box2) → is_none (fold widened (Some box) points) ≡ false
-stays_some [] box = refl
-stays_some (p ∷ points) box = stays_some points _
-
-some_extent : (points : List Point) → is_empty points ≡ false → is_none (extent_of points) ≡ false
-some_extent [] some = cc
-some_extent (p ∷ points) some = stays_some points _
-
-kept_box : (g : Geometry) → fault_of g ≡ None → is_none (box_of g) ≡ false
-kept_box g kept =
-    some_extent (points_of g) (some_points g (neither_of _ _ (short_is _ _ _ _ kept)).0)
+-- what the crates below say of extents, and of the values of a feature that fits
+pub record ValueLaws : Type 0 where
+  pub extent : (g : Geometry) → fault_of g ≡ None
+      → (e : Box2) × (extent_of (points_of g) ≡ Some e)
+  pub value : (t : Specification) (f : Feature) (n : ℕ) (k : Kind) → Fits t f
+      → kind_at t n ≡ Some k → value_fits k (value_at f n) ≡ true
 
 -- ---- values
-fits_at : (kinds : List Kind) (values : List Value) (n : ℕ) (k : Kind)
-    → values_fit kinds values ≡ true → slice_get kinds n ≡ Some k
-    → value_fits k (get_or values n value.Null) ≡ true
-fits_at [] values n k fit is = cc
-fits_at (x ∷ kinds) [] n k fit is = cc
-fits_at (x ∷ kinds) (v ∷ values) zero k fit is = let same : x ≡ k = cc in
-    ap (λ y. value_fits y v) (sym same) ∙ (both_of _ _ fit).0
-fits_at (x ∷ kinds) (v ∷ values) (suc n) k fit is = fits_at kinds values n k (both_of _ _ fit).1 is
-
 point_value : (v : Value) → value_fits (kind.Geo shape.Point) v ≡ true
     → is_none (option_and_then point_of (geometry_of v)) ≡ is_null v
 point_value value.Null fit = refl
@@ -110,11 +57,12 @@ point_value (value.Geo (geo.ManyLines p)) fit = cc
 point_value (value.Geo (geo.ManyAreas p)) fit = cc
 point_value _ fit = cc
 
-box_value : (s : GeoKind) (v : Value) → value_fits (kind.Geo s) v ≡ true
+box_value : ValueLaws → (s : GeoKind) (v : Value) → value_fits (kind.Geo s) v ≡ true
     → is_none (option_and_then box_of (geometry_of v)) ≡ is_null v
-box_value s value.Null fit = refl
-box_value s (value.Geo g) fit = kept_box g (none_is (fault_of g) (both_of _ _ fit).1)
-box_value s _ fit = cc
+box_value laws s value.Null fit = refl
+box_value laws s (value.Geo g) fit =
+    ap is_none (laws.extent g (none_is (fault_of g) (both_of _ _ fit).1)).1
+box_value laws s _ fit = cc
 
 some_is : {A : Type 0} (o : Option A) → is_some o ≡ true → is_none o ≡ false
 some_is None is = cc
@@ -185,30 +133,30 @@ other_shape t other = by (default_shape_of t) other
     by None is = cc
     by (Some s) is = (s, refl)
 
-point_missing : (t : Specification) (f : Feature) → HasShape t shape.Point → Fits t f
+point_missing : ValueLaws → (t : Specification) (f : Feature) → HasShape t shape.Point → Fits t f
     → is_none (point_in t f) ≡ lacks_at f (default_geometry_of t)
-point_missing t f has fits =
+point_missing laws t f has fits =
     ap (λ g. is_none (point_by f g)) has.at
     ∙ point_value (value_at f has.place)
-    (fits_at (kinds_of t) f.values has.place (kind.Geo shape.Point) fits.each has.kind_is)
+    (laws.value t f has.place (kind.Geo shape.Point) fits has.kind_is)
     ∙ or_false (is_null (value_at f has.place)) ∙ ap (lacks_at f) (sym has.at)
 
-box_missing : (t : Specification) (f : Feature) (s : GeoKind) → HasShape t s → Fits t f
-    → is_none (box_in t f) ≡ lacks_at f (default_geometry_of t)
-box_missing t f s has fits =
+box_missing : ValueLaws → (t : Specification) (f : Feature) (s : GeoKind) → HasShape t s
+    → Fits t f → is_none (box_in t f) ≡ lacks_at f (default_geometry_of t)
+box_missing laws t f s has fits =
     ap (λ g. is_none (box_by f g)) has.at
-    ∙ box_value s (value_at f has.place)
-    (fits_at (kinds_of t) f.values has.place (kind.Geo s) fits.each has.kind_is)
+    ∙ box_value laws s (value_at f has.place)
+    (laws.value t f has.place (kind.Geo s) fits has.kind_is)
     ∙ or_false (is_null (value_at f has.place)) ∙ ap (lacks_at f) (sym has.at)
 
 when_time : (a b : Bool) → (not a || b) ≡ true → a ≡ true → b ≡ true
 when_time true b either is = either
 when_time false b either is = cc
 
-bin_missing : (t : Specification) (f : Feature) → HoldsTogether t
+bin_missing : ValueLaws → (t : Specification) (f : Feature) → HoldsTogether t
     → is_some (default_date_of t) ≡ true → has_time_index t ≡ true → Fits t f
     → is_none (bin_in t f) ≡ lacks_at f (default_date_of t)
-bin_missing t f holds some timed fits =
+bin_missing laws t f holds some timed fits =
     elim (default_date_of t) as
     (λ d. default_date_of t ≡ d → is_some d ≡ true
     → is_none (bin_in t f) ≡ lacks_at f (default_date_of t)) [
@@ -220,7 +168,7 @@ bin_missing t f holds some timed fits =
           (date_has_bin (period_of t) (default_date_of t) f.values) fits.date timed in
           ap (λ d. is_none (bin_by (period_of t) f d)) at
           ∙ bin_value (period_of t) (value_at f place)
-          (fits_at (kinds_of t) f.values place kind.Date fits.each (holds.date place at).kind) bin
+          (laws.value t f place kind.Date fits (holds.date place at).kind) bin
           ∙ or_false (is_null (value_at f place)) ∙ ap (lacks_at f) (sym at)
     ] refl some
 
@@ -250,33 +198,33 @@ either_true false b is = is
 first_true : (a b : Bool) → a ≡ true → (a || b) ≡ true
 first_true a b is = ap (λ t. t || b) is
 
-pub missing : (t : Specification) (k : IndexKind) (f : Feature) → HoldsTogether t → Fits t f
-    → has_index t k ≡ true → is_none (key_of t k f) ≡ lacks_value t k f
+pub missing : ValueLaws → (t : Specification) (k : IndexKind) (f : Feature) → HoldsTogether t
+    → Fits t f → has_index t k ≡ true → is_none (key_of t k f) ≡ lacks_value t k f
 unfolding front_of
-missing t Id f holds fits has = refl
-missing t Z2 f holds fits has =
+missing laws t Id f holds fits has = refl
+missing laws t Z2 f holds fits has =
     map_none (λ front. front ++ f.id) (front_of t Z2 f) ∙ map_none _ (point_in t f)
-    ∙ point_missing t f (shape_at t shape.Point holds (holds.z2 has)) fits
-missing t Z3 f holds fits has =
+    ∙ point_missing laws t f (shape_at t shape.Point holds (holds.z2 has)) fits
+missing laws t Z3 f holds fits has =
     map_none (λ front. front ++ f.id) (front_of t Z3 f)
     ∙ then_none _ (point_in t f) (is_none (bin_in t f)) (λ p. map_none _ (bin_in t f))
-    ∙ (λ i. point_missing t f (shape_at t shape.Point holds (holds.z3 has).0) fits i
-    || bin_missing t f holds (holds.z3 has).1
+    ∙ (λ i. point_missing laws t f (shape_at t shape.Point holds (holds.z3 has).0) fits i
+    || bin_missing laws t f holds (holds.z3 has).1
     (first_true (has_index t Z3) (has_index t Xz3) has) fits i)
     ∙ sym (any_append f (default_geometry_of t) (default_date_of t))
-missing t Xz2 f holds fits has =
+missing laws t Xz2 f holds fits has =
     let other = other_shape t (holds.xz2 has) in
     map_none (λ front. front ++ f.id) (front_of t Xz2 f) ∙ map_none _ (box_in t f)
-    ∙ box_missing t f other.0 (shape_at t other.0 holds other.1) fits
-missing t Xz3 f holds fits has =
+    ∙ box_missing laws t f other.0 (shape_at t other.0 holds other.1) fits
+missing laws t Xz3 f holds fits has =
     let other = other_shape t (holds.xz3 has).0 in
     map_none (λ front. front ++ f.id) (front_of t Xz3 f)
     ∙ then_none _ (box_in t f) (is_none (bin_in t f)) (λ b. map_none _ (bin_in t f))
-    ∙ (λ i. box_missing t f other.0 (shape_at t other.0 holds other.1) fits i
-    || bin_missing t f holds (holds.xz3 has).1
+    ∙ (λ i. box_missing laws t f other.0 (shape_at t other.0 holds other.1) fits i
+    || bin_missing laws t f holds (holds.xz3 has).1
     (either_true (has_index t Z3) (has_index t Xz3) has) fits i)
     ∙ sym (any_append f (default_geometry_of t) (default_date_of t))
-missing t (Attr n) f holds fits has =
+missing laws t (Attr n) f holds fits has =
     let indexed = holds.by_attribute n has in
     map_none (λ front. front ++ f.id) (front_of t (Attr n) f) ∙ map_none _ (form_of (value_at f n))
     ∙ value_missing (kind_at t n) refl indexed.no_geometry ∙ or_false (is_null (value_at f n))
@@ -293,4 +241,4 @@ missing t (Attr n) f holds fits has =
         past (k ∷ kinds) (v ∷ values) zero fit at = cc
         past (k ∷ kinds) (v ∷ values) (suc n) fit at = past kinds values n (both_of _ _ fit).1 at
     value_missing (Some k) at plain =
-        form_value k (value_at f n) plain (fits_at (kinds_of t) f.values n k fits.each at)
+        form_value k (value_at f n) plain (laws.value t f n k fits at)

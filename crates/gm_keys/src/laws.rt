@@ -16,6 +16,8 @@ ghost use Rattle.gm_keys.specs.Key.{bin_code_front, key_of, id_key};
 ghost use Rattle.gm_keys.specs.Layout.{IsLaidOut};
 ghost use Rattle.gm_keys.specs.Whereabouts.{lacks_value};
 
+use gm_feature::fitting_features_have_values;
+use gm_geom::extents_are_least;
 use gm_lexi::{big_bytes_in_order, fronts_decide, no_value_is_a_front};
 
 /// The key of a feature that fits is laid out as one of its index, and ends with its identifier.
@@ -92,7 +94,10 @@ pub fn keys_are_missing_where_values_are()
     ensures { (t : Specification) (kind : IndexKind) (feature : Feature) → HoldsTogether t
         → Fits t feature
         → has_index t kind ≡ true → is_none (key_of t kind feature) ≡ lacks_value t kind feature }
-{}
+{
+    extents_are_least();
+    fitting_features_have_values();
+}
 
 /// The prefixes of the indexes of types of one store tell these apart.
 pub fn prefixes_tell_indexes_apart()
