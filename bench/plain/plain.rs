@@ -53,15 +53,26 @@ struct Area {
 
 impl Area {
     fn contains(&self, point: Point) -> bool {
-        self.low.x <= point.x && point.x <= self.high.x && self.low.y <= point.y && point.y <= self.high.y
+        self.low.x <= point.x
+            && point.x <= self.high.x
+            && self.low.y <= point.y
+            && point.y <= self.high.y
     }
 
-    fn is_void(&self) -> bool { self.high.x < self.low.x || self.high.y < self.low.y }
+    fn is_void(&self) -> bool {
+        self.high.x < self.low.x || self.high.y < self.low.y
+    }
 
     fn met(&self, other: &Area) -> Area {
         Area {
-            low: Point { x: self.low.x.max(other.low.x), y: self.low.y.max(other.low.y) },
-            high: Point { x: self.high.x.min(other.high.x), y: self.high.y.min(other.high.y) },
+            low: Point {
+                x: self.low.x.max(other.low.x),
+                y: self.low.y.max(other.low.y),
+            },
+            high: Point {
+                x: self.high.x.min(other.high.x),
+                y: self.high.y.min(other.high.y),
+            },
         }
     }
 }
@@ -80,40 +91,59 @@ fn split_sign(text: &[u8]) -> (bool, &[u8]) {
 }
 
 fn split_digits(text: &[u8]) -> (&[u8], &[u8]) {
-    let count = text.iter().position(|byte| !byte.is_ascii_digit()).unwrap_or(text.len());
+    let count = text
+        .iter()
+        .position(|byte| !byte.is_ascii_digit())
+        .unwrap_or(text.len());
     text.split_at(count)
 }
 
 fn number_of(digits: &[u8]) -> u128 {
-    digits.iter().fold(0, |number, digit| number * 10 + u128::from(digit - b'0'))
+    digits
+        .iter()
+        .fold(0, |number, digit| number * 10 + u128::from(digit - b'0'))
 }
 
 // A decimal number in units of 10^-7, rounded half away from 0.
 fn read_fixed(text: &[u8]) -> Result<i32, NumberFault> {
     const FURTHEST: u128 = 1 << 31;
-    if text.len() > 38 { return Err(NumberFault::Form); }
+    if text.len() > 38 {
+        return Err(NumberFault::Form);
+    }
     let (negative, text) = split_sign(text);
     let (whole, text) = split_digits(text);
     let (fraction, text) = match text {
         [b'.', rest @ ..] => split_digits(rest),
         _ => (&[][..], text),
     };
-    if whole.len() + fraction.len() == 0 { return Err(NumberFault::Form); }
+    if whole.len() + fraction.len() == 0 {
+        return Err(NumberFault::Form);
+    }
     let exponent = match text {
         [] => 0,
         [b'e' | b'E', rest @ ..] => {
             let (below, rest) = split_sign(rest);
             let (digits, end) = split_digits(rest);
-            if !(1..=3).contains(&digits.len()) || !end.is_empty() { return Err(NumberFault::Form); }
+            if !(1..=3).contains(&digits.len()) || !end.is_empty() {
+                return Err(NumberFault::Form);
+            }
             let exponent = number_of(digits) as i32;
-            if below { -exponent } else { exponent }
+            if below {
+                -exponent
+            } else {
+                exponent
+            }
         }
         _ => return Err(NumberFault::Form),
     };
-    let mut value = fraction.iter().fold(number_of(whole), |value, digit| value * 10 + u128::from(digit - b'0'));
+    let mut value = fraction.iter().fold(number_of(whole), |value, digit| {
+        value * 10 + u128::from(digit - b'0')
+    });
     let mut places = 7 + exponent - fraction.len() as i32;
     while places > 0 && value > 0 {
-        if value > FURTHEST { return Err(NumberFault::Big); }
+        if value > FURTHEST {
+            return Err(NumberFault::Big);
+        }
         value *= 10;
         places -= 1;
     }
@@ -139,7 +169,9 @@ fn print_number(into: &mut Vec<u8>, number: i64) {
         at -= 1;
         digits[at] = b'0' + (rest % 10) as u8;
         rest /= 10;
-        if rest == 0 { break; }
+        if rest == 0 {
+            break;
+        }
     }
     if number < 0 {
         at -= 1;
@@ -151,10 +183,14 @@ fn print_number(into: &mut Vec<u8>, number: i64) {
 fn print_fixed(into: &mut Vec<u8>, value: i32) {
     const DEGREE: u32 = 10_000_000;
     let magnitude = value.unsigned_abs();
-    if value < 0 { into.push(b'-'); }
+    if value < 0 {
+        into.push(b'-');
+    }
     print_number(into, i64::from(magnitude / DEGREE));
     let mut rest = magnitude % DEGREE;
-    if rest > 0 { into.push(b'.'); }
+    if rest > 0 {
+        into.push(b'.');
+    }
     let mut unit = DEGREE / 10;
     while rest > 0 {
         into.push(b'0' + (rest / unit) as u8);
@@ -167,11 +203,15 @@ fn print_fixed(into: &mut Vec<u8>, value: i32) {
 fn read_point(text: &[u8]) -> Option<Point> {
     let letters = text.iter().position(|byte| !byte.is_ascii_alphabetic())?;
     let (word, rest) = text.split_at(letters);
-    if !word.eq_ignore_ascii_case(b"POINT") { return None; }
+    if !word.eq_ignore_ascii_case(b"POINT") {
+        return None;
+    }
     let rest = past_blanks(rest).strip_prefix(b"(")?;
     let (x, rest) = read_coordinate(past_blanks(rest))?;
     let spaced = past_blanks(rest);
-    if spaced.len() == rest.len() { return None; }
+    if spaced.len() == rest.len() {
+        return None;
+    }
     let (y, rest) = read_coordinate(spaced)?;
     let point = Point { x, y };
     (past_blanks(rest) == b")" && point.is_in_world()).then_some(point)
@@ -179,7 +219,10 @@ fn read_point(text: &[u8]) -> Option<Point> {
 
 fn read_coordinate(text: &[u8]) -> Option<(i32, &[u8])> {
     let is_part = |byte: &u8| byte.is_ascii_digit() || b"+-.eE".contains(byte);
-    let count = text.iter().position(|byte| !is_part(byte)).unwrap_or(text.len());
+    let count = text
+        .iter()
+        .position(|byte| !is_part(byte))
+        .unwrap_or(text.len());
     let (number, rest) = text.split_at(count);
     Some((read_fixed(number).ok()?, rest))
 }
@@ -221,20 +264,35 @@ fn days_in(year: i64, month: i64) -> i64 {
 }
 
 fn read_digits(text: &[u8]) -> Option<i64> {
-    text.iter().try_fold(0, |number, byte| byte.is_ascii_digit().then(|| number * 10 + i64::from(byte - b'0')))
+    text.iter().try_fold(0, |number, byte| {
+        byte.is_ascii_digit()
+            .then(|| number * 10 + i64::from(byte - b'0'))
+    })
 }
 
 fn read_instant(text: &[u8]) -> Option<i64> {
-    if text.len() < 10 || text[4] != b'-' || text[7] != b'-' { return None; }
-    let (year, month, day) = (read_digits(&text[..4])?, read_digits(&text[5..7])?, read_digits(&text[8..10])?);
-    if !(1..=12).contains(&month) || !(1..=days_in(year, month)).contains(&day) { return None; }
+    if text.len() < 10 || text[4] != b'-' || text[7] != b'-' {
+        return None;
+    }
+    let (year, month, day) = (
+        read_digits(&text[..4])?,
+        read_digits(&text[5..7])?,
+        read_digits(&text[8..10])?,
+    );
+    if !(1..=12).contains(&month) || !(1..=days_in(year, month)).contains(&day) {
+        return None;
+    }
     let ms = day_of(year, month, day) * DAY_MS + read_time(&text[10..])?;
     (FIRST_MS..=LAST_MS).contains(&ms).then_some(ms)
 }
 
 fn read_time(text: &[u8]) -> Option<i64> {
-    let Some((mark, rest)) = text.split_first() else { return Some(0) };
-    if *mark != b'T' || rest.len() < 5 { return None; }
+    let Some((mark, rest)) = text.split_first() else {
+        return Some(0);
+    };
+    if *mark != b'T' || rest.len() < 5 {
+        return None;
+    }
     let (clock, rest) = rest.split_at(5);
     let ms = read_clock(clock)?;
     match rest {
@@ -247,15 +305,21 @@ fn read_time(text: &[u8]) -> Option<i64> {
 }
 
 fn read_clock(text: &[u8]) -> Option<i64> {
-    if text.len() != 5 || text[2] != b':' { return None; }
+    if text.len() != 5 || text[2] != b':' {
+        return None;
+    }
     let (hours, minutes) = (read_digits(&text[..2])?, read_digits(&text[3..])?);
     (hours < 24 && minutes < 60).then_some((hours * 60 + minutes) * 60_000)
 }
 
 fn read_fraction(text: &[u8]) -> Option<i64> {
-    let [b'.', rest @ ..] = text else { return read_zone(text) };
+    let [b'.', rest @ ..] = text else {
+        return read_zone(text);
+    };
     let (digits, zone) = split_digits(rest);
-    if !(1..=9).contains(&digits.len()) { return None; }
+    if !(1..=9).contains(&digits.len()) {
+        return None;
+    }
     let digit = |place: usize| digits.get(place).map_or(0, |digit| i64::from(digit - b'0'));
     Some(digit(0) * 100 + digit(1) * 10 + digit(2) + read_zone(zone)?)
 }
@@ -294,11 +358,15 @@ const WEEK_MS: i64 = 7 * DAY_MS;
 const WEEK_SECONDS: u64 = 604_800;
 const LAST_BIN: i64 = 32_767;
 
-fn offset_in(number: i64, ms: i64) -> u64 { ((ms - number * WEEK_MS) / 1_000) as u64 }
+fn offset_in(number: i64, ms: i64) -> u64 {
+    ((ms - number * WEEK_MS) / 1_000) as u64
+}
 
 fn bin_of(ms: i64) -> Option<(u16, u64)> {
     let number = ms.div_euclid(WEEK_MS);
-    (0..=LAST_BIN).contains(&number).then(|| (number as u16, offset_in(number, ms)))
+    (0..=LAST_BIN)
+        .contains(&number)
+        .then(|| (number as u16, offset_in(number, ms)))
 }
 
 // ---- Cells and codes
@@ -314,11 +382,18 @@ fn cell(place: u64, span: u64, bits: u32) -> u32 {
 // The cell of a coordinate along the world, which ends `half` below and above 0.
 fn cell_along(value: i32, half: i64, bits: u32) -> u32 {
     let span = 2 * half;
-    cell((i64::from(value) + half).clamp(0, span) as u64, span as u64, bits)
+    cell(
+        (i64::from(value) + half).clamp(0, span) as u64,
+        span as u64,
+        bits,
+    )
 }
 
 fn cells_of(point: Point, bits: u32) -> (u32, u32) {
-    (cell_along(point.x, 1_800_000_000, bits), cell_along(point.y, 900_000_000, bits))
+    (
+        cell_along(point.x, 1_800_000_000, bits),
+        cell_along(point.y, 900_000_000, bits),
+    )
 }
 
 fn spread_by_two(x: u32) -> u64 {
@@ -340,7 +415,9 @@ fn spread_by_three(x: u32) -> u64 {
 }
 
 fn shard_of(id: &[u8], shards: u8) -> u8 {
-    let hash = id.iter().fold(2_166_136_261u32, |hash, byte| (hash ^ u32::from(*byte)).wrapping_mul(16_777_619));
+    let hash = id.iter().fold(2_166_136_261u32, |hash, byte| {
+        (hash ^ u32::from(*byte)).wrapping_mul(16_777_619)
+    });
     (hash % u32::from(shards)) as u8
 }
 
@@ -374,17 +451,34 @@ impl<const D: u32, const B: u32> Tree<D, B> {
         Node {
             level: node.level + 1,
             first: node.first + (u64::from(q) << (D * (B - node.level - 1))),
-            cell: Cell { x: 2 * node.cell.x + q % 2, y: 2 * node.cell.y + q / 2 % 2, t: 2 * node.cell.t + q / 4 },
+            cell: Cell {
+                x: 2 * node.cell.x + q % 2,
+                y: 2 * node.cell.y + q / 2 % 2,
+                t: 2 * node.cell.t + q / 4,
+            },
         }
     }
 
-    fn last(node: &Node) -> u64 { node.first + ((1u64 << (D * (B - node.level))) - 1) }
+    fn last(node: &Node) -> u64 {
+        node.first + ((1u64 << (D * (B - node.level))) - 1)
+    }
 
     fn reach(node: &Node) -> Window {
         let below = B - node.level;
         let side = (1u32 << below) - 1;
-        let low = Cell { x: node.cell.x << below, y: node.cell.y << below, t: node.cell.t << below };
-        Window { low, high: Cell { x: low.x + side, y: low.y + side, t: low.t + side } }
+        let low = Cell {
+            x: node.cell.x << below,
+            y: node.cell.y << below,
+            t: node.cell.t << below,
+        };
+        Window {
+            low,
+            high: Cell {
+                x: low.x + side,
+                y: low.y + side,
+                t: low.t + side,
+            },
+        }
     }
 
     fn overlaps(reach: &Window, window: &Window) -> bool {
@@ -407,9 +501,19 @@ impl<const D: u32, const B: u32> Tree<D, B> {
     fn split(windows: &[Window], target: usize) -> Vec<(u64, u64)> {
         let mut now = Front::default();
         let mut next = Front::default();
-        now.add::<D, B>(Node { level: 0, first: 0, cell: Cell { x: 0, y: 0, t: 0 } }, windows, u64::MAX);
+        now.add::<D, B>(
+            Node {
+                level: 0,
+                first: 0,
+                cell: Cell { x: 0, y: 0, t: 0 },
+            },
+            windows,
+            u64::MAX,
+        );
         for _ in 0..B {
-            if now.partial == 0 { break; }
+            if now.partial == 0 {
+                break;
+            }
             next.clear();
             for piece in &now.pieces {
                 match *piece {
@@ -420,7 +524,9 @@ impl<const D: u32, const B: u32> Tree<D, B> {
                         }
                     }
                 }
-                if next.runs > target || next.partial > 4 * target { return now.into_runs::<D, B>(); }
+                if next.runs > target || next.partial > 4 * target {
+                    return now.into_runs::<D, B>();
+                }
             }
             std::mem::swap(&mut now, &mut next);
         }
@@ -451,7 +557,9 @@ impl Front {
     }
 
     fn begin(&mut self, low: u64, high: u64) {
-        if self.end != Some(low) { self.runs += 1; }
+        if self.end != Some(low) {
+            self.runs += 1;
+        }
         self.end = Some(high + 1);
     }
 
@@ -470,10 +578,14 @@ impl Front {
         let mut near = 0;
         while left != 0 {
             let at = left.trailing_zeros();
-            let Some(window) = windows.get(at as usize) else { break };
+            let Some(window) = windows.get(at as usize) else {
+                break;
+            };
             left &= left - 1;
             if Tree::<D, B>::overlaps(&reach, window) {
-                if Tree::<D, B>::is_within(&reach, window) { return self.settle(node.first, last); }
+                if Tree::<D, B>::is_within(&reach, window) {
+                    return self.settle(node.first, last);
+                }
                 near |= 1 << at;
             }
         }
@@ -542,7 +654,9 @@ fn is_name(text: &[u8]) -> bool {
     text.len() <= 64 && text.first().is_some_and(begins) && text.iter().all(is_word_byte)
 }
 
-fn is_word_byte(byte: &u8) -> bool { byte.is_ascii_alphanumeric() || *byte == b'_' }
+fn is_word_byte(byte: &u8) -> bool {
+    byte.is_ascii_alphanumeric() || *byte == b'_'
+}
 
 fn read_attribute(text: &[u8], starred: &mut bool) -> Option<Attribute> {
     let (star, text) = match text {
@@ -560,7 +674,12 @@ fn read_attribute(text: &[u8], starred: &mut bool) -> Option<Attribute> {
         b"Point" => Kind::Point,
         _ => return None,
     };
-    let mut attribute = Attribute { name: name.to_vec(), kind, indexed: false, high: false };
+    let mut attribute = Attribute {
+        name: name.to_vec(),
+        kind,
+        indexed: false,
+        high: false,
+    };
     for option in parts {
         match option {
             b"index=true" | b"index=full" => attribute.indexed = kind != Kind::Point,
@@ -576,10 +695,15 @@ fn read_attribute(text: &[u8], starred: &mut bool) -> Option<Attribute> {
 
 fn read_type(name: &[u8], number: u16, text: &[u8]) -> Option<FeatureType> {
     let (attributes, shards) = match text.iter().position(|byte| *byte == b';') {
-        Some(at) => (&text[..at], parse(text[at + 1..].strip_prefix(b"geomesa.z.splits=")?)?),
+        Some(at) => (
+            &text[..at],
+            parse(text[at + 1..].strip_prefix(b"geomesa.z.splits=")?)?,
+        ),
         None => (text, 4),
     };
-    if !(1..=127).contains(&shards) { return None; }
+    if !(1..=127).contains(&shards) {
+        return None;
+    }
     let mut of = FeatureType {
         name: name.to_vec(),
         number,
@@ -592,23 +716,38 @@ fn read_type(name: &[u8], number: u16, text: &[u8]) -> Option<FeatureType> {
     let mut star_at = None;
     for (place, part) in attributes.split(|byte| *byte == b',').enumerate() {
         let mut starred = false;
-        of.attributes.push(read_attribute(part.trim_ascii(), &mut starred)?);
-        if starred && star_at.replace(place).is_some() { return None; }
+        of.attributes
+            .push(read_attribute(part.trim_ascii(), &mut starred)?);
+        if starred && star_at.replace(place).is_some() {
+            return None;
+        }
     }
-    let first = |kind: Kind| of.attributes.iter().position(|attribute| attribute.kind == kind);
+    let first = |kind: Kind| {
+        of.attributes
+            .iter()
+            .position(|attribute| attribute.kind == kind)
+    };
     let geometry = star_at.or_else(|| first(Kind::Point));
     (of.geometry, of.date) = (geometry, first(Kind::Date));
-    if of.geometry.is_some() { of.indexes.push(Index::Z2); }
-    if of.geometry.is_some() && of.date.is_some() { of.indexes.push(Index::Z3); }
+    if of.geometry.is_some() {
+        of.indexes.push(Index::Z2);
+    }
+    if of.geometry.is_some() && of.date.is_some() {
+        of.indexes.push(Index::Z3);
+    }
     for (place, attribute) in of.attributes.iter().enumerate() {
-        if attribute.indexed { of.indexes.push(Index::Value(place)); }
+        if attribute.indexed {
+            of.indexes.push(Index::Value(place));
+        }
     }
     Some(of)
 }
 
 impl FeatureType {
     fn attribute_named(&self, name: &[u8]) -> Option<usize> {
-        self.attributes.iter().position(|attribute| attribute.name == name)
+        self.attributes
+            .iter()
+            .position(|attribute| attribute.name == name)
     }
 
     // What the keys of an index begin with.
@@ -648,10 +787,14 @@ fn is_identifier(text: &[u8]) -> bool {
     (1..=128).contains(&text.len()) && text.iter().all(|byte| *byte >= 32 && *byte != 127)
 }
 
-fn parse<T: std::str::FromStr>(text: &[u8]) -> Option<T> { std::str::from_utf8(text).ok()?.parse().ok() }
+fn parse<T: std::str::FromStr>(text: &[u8]) -> Option<T> {
+    std::str::from_utf8(text).ok()?.parse().ok()
+}
 
 fn read_value(kind: Kind, field: &[u8]) -> Option<Value<'_>> {
-    if field.is_empty() { return Some(Value::Null); }
+    if field.is_empty() {
+        return Some(Value::Null);
+    }
     match kind {
         Kind::Text => (!field.contains(&0)).then_some(Value::Text(field)),
         Kind::Integer => parse(field).map(Value::Integer),
@@ -666,7 +809,9 @@ fn read_value(kind: Kind, field: &[u8]) -> Option<Value<'_>> {
 
 // The feature of a row without quotes.
 fn read_feature<'a>(of: &FeatureType, row: &'a [u8]) -> Result<Feature<'a>, Refusal> {
-    if row.iter().any(|byte| *byte == b'"' || *byte == b'\r') { return Err(FIELD_COUNT); }
+    if row.iter().any(|byte| *byte == b'"' || *byte == b'\r') {
+        return Err(FIELD_COUNT);
+    }
     let mut fields = row.split(|byte| *byte == b',');
     let id = fields.next().unwrap_or_default();
     let mut values = Vec::with_capacity(of.attributes.len());
@@ -679,19 +824,31 @@ fn read_feature<'a>(of: &FeatureType, row: &'a [u8]) -> Result<Feature<'a>, Refu
             None => fault = fault.or(Some(GEOMETRY)),
         }
     }
-    if fields.next().is_some() { return Err(FIELD_COUNT); }
-    if let Some(fault) = fault { return Err(fault); }
-    if let Some(Value::Date(ms)) = of.date.map(|place| values[place]) {
-        if of.indexes.contains(&Index::Z3) && bin_of(ms).is_none() { return Err(NO_BIN); }
+    if fields.next().is_some() {
+        return Err(FIELD_COUNT);
     }
-    if !is_identifier(id) { return Err(IDENTIFIER); }
+    if let Some(fault) = fault {
+        return Err(fault);
+    }
+    if let Some(Value::Date(ms)) = of.date.map(|place| values[place]) {
+        if of.indexes.contains(&Index::Z3) && bin_of(ms).is_none() {
+            return Err(NO_BIN);
+        }
+    }
+    if !is_identifier(id) {
+        return Err(IDENTIFIER);
+    }
     Ok(Feature { id, values })
 }
 
 // The lexicoded forms of values: bytes in the order of the values.
-fn integer_form(number: i32) -> [u8; 4] { (number as u32 ^ 1 << 31).to_be_bytes() }
+fn integer_form(number: i32) -> [u8; 4] {
+    (number as u32 ^ 1 << 31).to_be_bytes()
+}
 
-fn long_form(number: i64) -> [u8; 8] { (number as u64 ^ 1 << 63).to_be_bytes() }
+fn long_form(number: i64) -> [u8; 8] {
+    (number as u64 ^ 1 << 63).to_be_bytes()
+}
 
 fn take<'a>(bytes: &mut &'a [u8], count: usize) -> &'a [u8] {
     let (front, rest) = bytes.split_at(count);
@@ -699,9 +856,13 @@ fn take<'a>(bytes: &mut &'a [u8], count: usize) -> &'a [u8] {
     front
 }
 
-fn take_four(bytes: &mut &[u8]) -> [u8; 4] { take(bytes, 4).try_into().unwrap() }
+fn take_four(bytes: &mut &[u8]) -> [u8; 4] {
+    take(bytes, 4).try_into().unwrap()
+}
 
-fn take_eight(bytes: &mut &[u8]) -> [u8; 8] { take(bytes, 8).try_into().unwrap() }
+fn take_eight(bytes: &mut &[u8]) -> [u8; 8] {
+    take(bytes, 8).try_into().unwrap()
+}
 
 // The identifier at the front of a feature's bytes, and the bytes of its values.
 fn split_id(bytes: &[u8]) -> (&[u8], &[u8]) {
@@ -710,7 +871,9 @@ fn split_id(bytes: &[u8]) -> (&[u8], &[u8]) {
 }
 
 fn take_value<'a>(kind: Kind, bytes: &mut &'a [u8]) -> Value<'a> {
-    if take(bytes, 1) == [0] { return Value::Null; }
+    if take(bytes, 1) == [0] {
+        return Value::Null;
+    }
     match kind {
         Kind::Text => {
             let length = u32::from_be_bytes(take_four(bytes)) as usize;
@@ -741,7 +904,11 @@ fn value_at<'a>(of: &FeatureType, place: usize, mut bytes: &'a [u8]) -> Value<'a
 impl<'a> Feature<'a> {
     fn from_bytes(of: &FeatureType, bytes: &'a [u8]) -> Feature<'a> {
         let (id, mut rest) = split_id(bytes);
-        let values = of.attributes.iter().map(|attribute| take_value(attribute.kind, &mut rest)).collect();
+        let values = of
+            .attributes
+            .iter()
+            .map(|attribute| take_value(attribute.kind, &mut rest))
+            .collect();
         Feature { id, values }
     }
 
@@ -758,7 +925,9 @@ impl<'a> Feature<'a> {
                     bytes.extend_from_slice(text);
                 }
                 Value::Integer(number) => bytes.extend_from_slice(&number.to_be_bytes()),
-                Value::Long(number) | Value::Date(number) => bytes.extend_from_slice(&number.to_be_bytes()),
+                Value::Long(number) | Value::Date(number) => {
+                    bytes.extend_from_slice(&number.to_be_bytes())
+                }
                 Value::Boolean(truth) => bytes.push(u8::from(truth)),
                 Value::Point(point) => {
                     bytes.push(1);
@@ -811,7 +980,9 @@ impl<'a> Feature<'a> {
                     key.push(0);
                 }
                 Value::Integer(number) => key.extend_from_slice(&integer_form(number)),
-                Value::Long(number) | Value::Date(number) => key.extend_from_slice(&long_form(number)),
+                Value::Long(number) | Value::Date(number) => {
+                    key.extend_from_slice(&long_form(number))
+                }
                 Value::Boolean(truth) => key.push(u8::from(truth)),
             },
         }
@@ -820,7 +991,10 @@ impl<'a> Feature<'a> {
     }
 
     fn keys(&self, of: &FeatureType) -> Vec<Vec<u8>> {
-        of.indexes.iter().filter_map(|index| self.key(of, *index)).collect()
+        of.indexes
+            .iter()
+            .filter_map(|index| self.key(of, *index))
+            .collect()
     }
 }
 
@@ -870,7 +1044,9 @@ impl<'a> End<'a> {
     }
 
     fn cmp(&self, other: &End) -> Ordering {
-        self.front.cmp(&other.front).then_with(|| self.bytes.cmp(other.bytes))
+        self.front
+            .cmp(&other.front)
+            .then_with(|| self.bytes.cmp(other.bytes))
     }
 }
 
@@ -881,9 +1057,16 @@ struct Row {
 }
 
 impl Row {
-    fn end(&self) -> End<'_> { End { front: self.front, bytes: &self.key } }
+    fn end(&self) -> End<'_> {
+        End {
+            front: self.front,
+            bytes: &self.key,
+        }
+    }
 
-    fn is_before(&self, end: &End) -> bool { self.end().cmp(end).is_lt() }
+    fn is_before(&self, end: &End) -> bool {
+        self.end().cmp(end).is_lt()
+    }
 }
 
 // The front of the first key stands beside the rows.
@@ -893,7 +1076,12 @@ struct Block {
 }
 
 impl Block {
-    fn of(rows: Vec<Row>) -> Block { Block { front: rows[0].front, rows } }
+    fn of(rows: Vec<Row>) -> Block {
+        Block {
+            front: rows[0].front,
+            rows,
+        }
+    }
 
     fn begins_by(&self, end: &End) -> bool {
         self.front < end.front || self.front == end.front && self.rows[0].end().cmp(end).is_le()
@@ -912,8 +1100,13 @@ impl Table {
 
     // Where the row of a key stands or would stand.
     fn find(&self, end: &End) -> Result<(usize, usize), (usize, usize)> {
-        let block = self.blocks.partition_point(|block| block.begins_by(end)).saturating_sub(1);
-        let Some(found) = self.blocks.get(block) else { return Err((0, 0)) };
+        let block = self
+            .blocks
+            .partition_point(|block| block.begins_by(end))
+            .saturating_sub(1);
+        let Some(found) = self.blocks.get(block) else {
+            return Err((0, 0));
+        };
         let row = found.rows.partition_point(|row| row.is_before(end));
         match found.rows.get(row) {
             Some(row_there) if *row_there.key == *end.bytes => Ok((block, row)),
@@ -931,7 +1124,11 @@ impl Table {
         match self.find(&end) {
             Ok((block, row)) => self.blocks[block].rows[row].bytes = bytes.into(),
             Err((block, row)) => {
-                let row_put = Row { front: end.front, key: key.into(), bytes: bytes.into() };
+                let row_put = Row {
+                    front: end.front,
+                    key: key.into(),
+                    bytes: bytes.into(),
+                };
                 self.insert(block, row, row_put);
             }
         }
@@ -950,7 +1147,9 @@ impl Table {
                 let half = Self::MOST / 2;
                 let later = Block::of(found.rows.split_off(half));
                 self.blocks.insert(block + 1, later);
-                if at > half { (block, at) = (block + 1, at - half); }
+                if at > half {
+                    (block, at) = (block + 1, at - half);
+                }
             }
         }
         let found = &mut self.blocks[block];
@@ -970,7 +1169,13 @@ impl Table {
         }
     }
 
-    fn cursor(&self) -> Cursor<'_> { Cursor { blocks: &self.blocks, block: 0, row: 0 } }
+    fn cursor(&self) -> Cursor<'_> {
+        Cursor {
+            blocks: &self.blocks,
+            block: 0,
+            row: 0,
+        }
+    }
 }
 
 // Walks over spans of keys that rise: no row before its place is in a span to come.
@@ -981,11 +1186,15 @@ struct Cursor<'a> {
 }
 
 impl<'a> Cursor<'a> {
-    fn current(&self) -> Option<&'a Row> { Some(&self.blocks.get(self.block)?.rows[self.row]) }
+    fn current(&self) -> Option<&'a Row> {
+        Some(&self.blocks.get(self.block)?.rows[self.row])
+    }
 
     fn step_to(&mut self, row: usize) {
         self.row = row;
-        if self.row == self.blocks[self.block].rows.len() { (self.block, self.row) = (self.block + 1, 0); }
+        if self.row == self.blocks[self.block].rows.len() {
+            (self.block, self.row) = (self.block + 1, 0);
+        }
     }
 
     fn seek(&mut self, low: &End) {
@@ -1067,13 +1276,15 @@ fn holds(tests: &[Test], of: &FeatureType, bytes: &[u8]) -> bool {
     let (id, values) = split_id(bytes);
     tests.iter().all(|test| match test {
         Test::Include => true,
-        Test::Ids(ids) => ids.binary_search_by(|other| other.as_slice().cmp(id)).is_ok(),
-        Test::Compare(place, op, literal) => {
-            order_of(&value_at(of, *place, values), literal).is_some_and(|order| compares(order, *op))
-        }
+        Test::Ids(ids) => ids
+            .binary_search_by(|other| other.as_slice().cmp(id))
+            .is_ok(),
+        Test::Compare(place, op, literal) => order_of(&value_at(of, *place, values), literal)
+            .is_some_and(|order| compares(order, *op)),
         Test::Between(place, low, high) => {
             let value = value_at(of, *place, values);
-            order_of(&value, low).is_some_and(Ordering::is_ge) && order_of(&value, high).is_some_and(Ordering::is_le)
+            order_of(&value, low).is_some_and(Ordering::is_ge)
+                && order_of(&value, high).is_some_and(Ordering::is_le)
         }
         Test::During(place, low, high) => {
             matches!(value_at(of, *place, values), Value::Date(ms) if *low < ms && ms < *high)
@@ -1105,7 +1316,13 @@ fn token_at(text: &[u8]) -> Option<(Token<'_>, &[u8])> {
         [b'0'..=b'9' | b'.' | b'+' | b'-', ..] => {
             let is_date = |text: &[u8]| {
                 let mut places = text.iter().enumerate();
-                places.all(|(place, byte)| if place == 4 || place == 7 { *byte == b'-' } else { byte.is_ascii_digit() })
+                places.all(|(place, byte)| {
+                    if place == 4 || place == 7 {
+                        *byte == b'-'
+                    } else {
+                        byte.is_ascii_digit()
+                    }
+                })
             };
             if text.get(..10).is_some_and(is_date) {
                 let is_part = |byte: &u8| byte.is_ascii_digit() || b"+-.:TZ".contains(byte);
@@ -1114,7 +1331,8 @@ fn token_at(text: &[u8]) -> Option<(Token<'_>, &[u8])> {
             }
             let mut sign = true;
             let end = text.iter().position(|byte| {
-                let goes_on = is_word_byte(byte) || *byte == b'.' || sign && (*byte == b'+' || *byte == b'-');
+                let goes_on =
+                    is_word_byte(byte) || *byte == b'.' || sign && (*byte == b'+' || *byte == b'-');
                 sign = byte.eq_ignore_ascii_case(&b'e');
                 !goes_on
             });
@@ -1125,7 +1343,9 @@ fn token_at(text: &[u8]) -> Option<(Token<'_>, &[u8])> {
             }
         }
         [b'<' | b'>', b'=', ..] => Some((Token::Symbol(&text[..2]), &text[2..])),
-        [b'=' | b'<' | b'>' | b'(' | b')' | b',' | b'/', ..] => Some((Token::Symbol(&text[..1]), &text[1..])),
+        [b'=' | b'<' | b'>' | b'(' | b')' | b',' | b'/', ..] => {
+            Some((Token::Symbol(&text[..1]), &text[1..]))
+        }
         _ => None,
     }
 }
@@ -1162,12 +1382,18 @@ fn read_filter(of: &FeatureType, text: &[u8]) -> Result<Vec<Test>, Refusal> {
         tokens.push(token);
         rest = past_blanks(behind);
     }
-    let mut reader =
-        Reader { of, tokens: tokens.into_iter().peekable(), unknown_name: false, bad_literal: false };
+    let mut reader = Reader {
+        of,
+        tokens: tokens.into_iter().peekable(),
+        unknown_name: false,
+        bad_literal: false,
+    };
     let mut tests = Vec::new();
     loop {
         reader.read_test(&mut tests).ok_or(SYNTAX)?;
-        if reader.tokens.peek().is_none() { break; }
+        if reader.tokens.peek().is_none() {
+            break;
+        }
         reader.word(b"AND").ok_or(SYNTAX)?;
     }
     match (reader.unknown_name, reader.bad_literal) {
@@ -1179,12 +1405,15 @@ fn read_filter(of: &FeatureType, text: &[u8]) -> Result<Vec<Test>, Refusal> {
 
 impl<'a> Reader<'a> {
     fn word(&mut self, word: &[u8]) -> Option<()> {
-        let is_word = |token: &Token| matches!(token, Token::Word(other) if other.eq_ignore_ascii_case(word));
+        let is_word =
+            |token: &Token| matches!(token, Token::Word(other) if other.eq_ignore_ascii_case(word));
         self.tokens.next_if(is_word).map(|_| ())
     }
 
     fn symbol(&mut self, symbol: &[u8]) -> Option<()> {
-        self.tokens.next_if(|token| matches!(token, Token::Symbol(other) if *other == symbol)).map(|_| ())
+        self.tokens
+            .next_if(|token| matches!(token, Token::Symbol(other) if *other == symbol))
+            .map(|_| ())
     }
 
     fn text(&mut self) -> Option<Vec<u8>> {
@@ -1231,7 +1460,10 @@ impl<'a> Reader<'a> {
             (Kind::Integer, Token::Number(number)) => {
                 parse::<i32>(number).map(|number| Literal::Number(number.into()))
             }
-            (_, Token::Word(word)) => match (word.eq_ignore_ascii_case(b"true"), word.eq_ignore_ascii_case(b"false")) {
+            (_, Token::Word(word)) => match (
+                word.eq_ignore_ascii_case(b"true"),
+                word.eq_ignore_ascii_case(b"false"),
+            ) {
                 (false, false) => return None,
                 (truth, _) => (kind == Kind::Boolean).then_some(Literal::Truth(truth)),
             },
@@ -1256,7 +1488,9 @@ impl<'a> Reader<'a> {
             self.symbol(b"(")?;
             loop {
                 ids.push(self.text()?);
-                if self.symbol(b")").is_some() { break; }
+                if self.symbol(b")").is_some() {
+                    break;
+                }
                 self.symbol(b",")?;
             }
             ids.retain(|id| is_identifier(id));
@@ -1273,7 +1507,9 @@ impl<'a> Reader<'a> {
         let attribute = self.attribute()?;
         let (place, kind) = attribute.unwrap_or((0, Kind::Text));
         let test = self.read_asked(place, kind)?;
-        if attribute.is_some() { self.push(tests, test); }
+        if attribute.is_some() {
+            self.push(tests, test);
+        }
         Some(())
     }
 
@@ -1287,8 +1523,16 @@ impl<'a> Reader<'a> {
             *corner = self.number()?;
         }
         self.symbol(b")")?;
-        let [Some(low_x), Some(low_y), Some(high_x), Some(high_y)] = corners else { return Some(None) };
-        let area = Area { low: Point { x: low_x, y: low_y }, high: Point { x: high_x, y: high_y } };
+        let [Some(low_x), Some(low_y), Some(high_x), Some(high_y)] = corners else {
+            return Some(None);
+        };
+        let area = Area {
+            low: Point { x: low_x, y: low_y },
+            high: Point {
+                x: high_x,
+                y: high_y,
+            },
+        };
         let fits = area.low.is_in_world() && area.high.is_in_world() && !area.is_void();
         Some(match attribute {
             Some((place, Kind::Point)) if fits => Some(Test::Inside(place, area)),
@@ -1324,7 +1568,11 @@ impl<'a> Reader<'a> {
         };
         let literal = self.literal(kind)?;
         let fits = is_ordered || op == Op::Equal;
-        Some(literal.filter(|_| fits).map(|literal| Test::Compare(place, op, literal)))
+        Some(
+            literal
+                .filter(|_| fits)
+                .map(|literal| Test::Compare(place, op, literal)),
+        )
     }
 }
 
@@ -1337,13 +1585,24 @@ enum Bound<T> {
 }
 
 impl<T> Bound<T> {
-    fn is_world(&self) -> bool { matches!(self, Bound::World) }
-
-    fn of(place: T, is_void: impl Fn(&T) -> bool) -> Bound<T> {
-        if is_void(&place) { Bound::Nowhere } else { Bound::In(place) }
+    fn is_world(&self) -> bool {
+        matches!(self, Bound::World)
     }
 
-    fn met(self, other: Bound<T>, met: impl Fn(&T, &T) -> T, is_void: impl Fn(&T) -> bool) -> Bound<T> {
+    fn of(place: T, is_void: impl Fn(&T) -> bool) -> Bound<T> {
+        if is_void(&place) {
+            Bound::Nowhere
+        } else {
+            Bound::In(place)
+        }
+    }
+
+    fn met(
+        self,
+        other: Bound<T>,
+        met: impl Fn(&T, &T) -> T,
+        is_void: impl Fn(&T) -> bool,
+    ) -> Bound<T> {
         match (self, other) {
             (Bound::World, bound) | (bound, Bound::World) => bound,
             (Bound::In(one), Bound::In(other)) => Bound::of(met(&one, &other), is_void),
@@ -1360,17 +1619,24 @@ struct Interval {
 }
 
 impl Interval {
-    fn is_void(&self) -> bool { matches!((self.low, self.high), (Some(low), Some(high)) if high < low) }
+    fn is_void(&self) -> bool {
+        matches!((self.low, self.high), (Some(low), Some(high)) if high < low)
+    }
 
     fn met(&self, other: &Interval) -> Interval {
         let high = match (self.high, other.high) {
             (Some(one), Some(other)) => Some(one.min(other)),
             (one, other) => one.or(other),
         };
-        Interval { low: self.low.max(other.low), high }
+        Interval {
+            low: self.low.max(other.low),
+            high,
+        }
     }
 
-    fn is_bounded(&self) -> bool { self.low.is_some() && self.high.is_some() }
+    fn is_bounded(&self) -> bool {
+        self.low.is_some() && self.high.is_some()
+    }
 }
 
 // The low end is in it, the high end is not; without a high end it goes on.
@@ -1381,19 +1647,26 @@ struct ByteRange {
 }
 
 impl ByteRange {
-    fn is_void(&self) -> bool { self.high.as_ref().is_some_and(|high| *high <= self.low) }
+    fn is_void(&self) -> bool {
+        self.high.as_ref().is_some_and(|high| *high <= self.low)
+    }
 
     fn met(&self, other: &ByteRange) -> ByteRange {
         let high = match (&self.high, &other.high) {
             (Some(one), Some(other)) => Some(one.min(other).clone()),
             (one, other) => one.as_ref().or(other.as_ref()).cloned(),
         };
-        ByteRange { low: self.low.clone().max(other.low.clone()), high }
+        ByteRange {
+            low: self.low.clone().max(other.low.clone()),
+            high,
+        }
     }
 
     fn is_of_one_value(&self, kind: Kind) -> bool {
         let is_form = match kind {
-            Kind::Text => self.low.iter().position(|byte| *byte == 0) == self.low.len().checked_sub(1),
+            Kind::Text => {
+                self.low.iter().position(|byte| *byte == 0) == self.low.len().checked_sub(1)
+            }
             Kind::Integer => self.low.len() == 4,
             Kind::Long | Kind::Date => self.low.len() == 8,
             Kind::Boolean => self.low.len() == 1,
@@ -1413,8 +1686,12 @@ fn after(bytes: &[u8]) -> Option<Vec<u8>> {
 
 fn form_of(kind: Kind, literal: &Literal) -> Option<Vec<u8>> {
     match (kind, literal) {
-        (Kind::Text, Literal::Text(text)) => (!text.contains(&0)).then(|| [text, &b"\0"[..]].concat()),
-        (Kind::Integer, Literal::Number(number)) => Some(integer_form(i32::try_from(*number).ok()?).to_vec()),
+        (Kind::Text, Literal::Text(text)) => {
+            (!text.contains(&0)).then(|| [text, &b"\0"[..]].concat())
+        }
+        (Kind::Integer, Literal::Number(number)) => {
+            Some(integer_form(i32::try_from(*number).ok()?).to_vec())
+        }
         (_, Literal::Number(number) | Literal::Date(number)) => Some(long_form(*number).to_vec()),
         (_, Literal::Truth(truth)) => Some(vec![u8::from(*truth)]),
         _ => None,
@@ -1445,28 +1722,41 @@ fn interval_of(test: &Test) -> Option<Interval> {
 }
 
 fn intervals_of(of: &FeatureType, tests: &[Test]) -> Bound<Interval> {
-    tests.iter().fold(Bound::World, |held, test| match (test, interval_of(test)) {
-        (Test::Compare(place, ..) | Test::Between(place, ..) | Test::During(place, ..), Some(interval))
-            if of.date == Some(*place) =>
-        { held.met(Bound::of(interval, Interval::is_void), Interval::met, Interval::is_void) }
-        _ => held,
-    })
+    tests
+        .iter()
+        .fold(Bound::World, |held, test| match (test, interval_of(test)) {
+            (
+                Test::Compare(place, ..) | Test::Between(place, ..) | Test::During(place, ..),
+                Some(interval),
+            ) if of.date == Some(*place) => held.met(
+                Bound::of(interval, Interval::is_void),
+                Interval::met,
+                Interval::is_void,
+            ),
+            _ => held,
+        })
 }
 
 fn values_of(of: &FeatureType, attribute: usize, tests: &[Test]) -> Bound<ByteRange> {
     let kind = of.attributes[attribute].kind;
-    let bound = |low: Vec<u8>, high: Option<Vec<u8>>| Bound::of(ByteRange { low, high }, ByteRange::is_void);
+    let bound = |low: Vec<u8>, high: Option<Vec<u8>>| {
+        Bound::of(ByteRange { low, high }, ByteRange::is_void)
+    };
     tests.iter().fold(Bound::World, |held, test| {
         let found = match test {
-            Test::Compare(place, op, literal) if *place == attribute => match (op, form_of(kind, literal)) {
-                (Op::Equal, None) => Bound::Nowhere,
-                (_, None) => Bound::World,
-                (Op::Equal, Some(form)) => bound(form.clone(), after(&form)),
-                (Op::Less, Some(form)) => bound(Vec::new(), Some(form)),
-                (Op::AtMost, Some(form)) => bound(Vec::new(), after(&form)),
-                (Op::More, Some(form)) => after(&form).map_or(Bound::Nowhere, |low| bound(low, None)),
-                (Op::AtLeast, Some(form)) => bound(form, None),
-            },
+            Test::Compare(place, op, literal) if *place == attribute => {
+                match (op, form_of(kind, literal)) {
+                    (Op::Equal, None) => Bound::Nowhere,
+                    (_, None) => Bound::World,
+                    (Op::Equal, Some(form)) => bound(form.clone(), after(&form)),
+                    (Op::Less, Some(form)) => bound(Vec::new(), Some(form)),
+                    (Op::AtMost, Some(form)) => bound(Vec::new(), after(&form)),
+                    (Op::More, Some(form)) => {
+                        after(&form).map_or(Bound::Nowhere, |low| bound(low, None))
+                    }
+                    (Op::AtLeast, Some(form)) => bound(form, None),
+                }
+            }
             Test::Between(place, low, high) if *place == attribute => {
                 match (form_of(kind, low), form_of(kind, high)) {
                     (Some(low), Some(high)) => bound(low, after(&high)),
@@ -1526,8 +1816,13 @@ fn cost_of(of: &FeatureType, index: Index, tests: &[Test]) -> Option<u32> {
 
 // The first of the indexes of least cost.
 fn cheapest(of: &FeatureType, tests: &[Test]) -> Index {
-    let costs = of.indexes.iter().filter_map(|index| Some((*index, cost_of(of, *index, tests)?)));
-    costs.min_by_key(|(_, cost)| *cost).map_or(Index::Id, |(index, _)| index)
+    let costs = of
+        .indexes
+        .iter()
+        .filter_map(|index| Some((*index, cost_of(of, *index, tests)?)));
+    costs
+        .min_by_key(|(_, cost)| *cost)
+        .map_or(Index::Id, |(index, _)| index)
 }
 
 enum Ranges {
@@ -1541,15 +1836,34 @@ enum Ranges {
 
 fn window_of(area: &Area, bits: u32, low_t: u32, high_t: u32) -> Window {
     let (low, high) = (cells_of(area.low, bits), cells_of(area.high, bits));
-    Window { low: Cell { x: low.0, y: low.1, t: low_t }, high: Cell { x: high.0, y: high.1, t: high_t } }
+    Window {
+        low: Cell {
+            x: low.0,
+            y: low.1,
+            t: low_t,
+        },
+        high: Cell {
+            x: high.0,
+            y: high.1,
+            t: high_t,
+        },
+    }
 }
 
 fn z3_ranges(area: &Area, interval: &Interval, target: usize) -> Ranges {
-    let Interval { low: Some(low), high: Some(high) } = *interval else { return Ranges::InBins(Vec::new()) };
+    let Interval {
+        low: Some(low),
+        high: Some(high),
+    } = *interval
+    else {
+        return Ranges::InBins(Vec::new());
+    };
     let first = low.div_euclid(WEEK_MS).clamp(0, LAST_BIN + 1);
     let last = high.div_euclid(WEEK_MS).clamp(-1, LAST_BIN);
     let count = (last - first + 1).max(0) as usize;
-    if count > target { return Ranges::Bins(first as u16, last as u16); }
+    if count > target {
+        return Ranges::Bins(first as u16, last as u16);
+    }
     let mut ranges = Vec::new();
     // The windows decomposed last, with their runs: most bins of a query have the same.
     let mut known: Vec<(Window, Vec<(u64, u64)>)> = Vec::new();
@@ -1558,11 +1872,19 @@ fn z3_ranges(area: &Area, interval: &Interval, target: usize) -> Ranges {
         let low_t = cell_at(low.max(number * WEEK_MS));
         let high_t = cell_at(high.min((number + 1) * WEEK_MS - 1));
         let window = window_of(area, Z3_BITS, low_t, high_t);
-        let place = known.iter().position(|(other, _)| *other == window).unwrap_or_else(|| {
-            known.push((window, Tree::<3, Z3_BITS>::split(&[window], target / count)));
-            known.len() - 1
-        });
-        ranges.extend(known[place].1.iter().map(|(low, high)| (number as u16, *low, *high)));
+        let place = known
+            .iter()
+            .position(|(other, _)| *other == window)
+            .unwrap_or_else(|| {
+                known.push((window, Tree::<3, Z3_BITS>::split(&[window], target / count)));
+                known.len() - 1
+            });
+        ranges.extend(
+            known[place]
+                .1
+                .iter()
+                .map(|(low, high)| (number as u16, *low, *high)),
+        );
     }
     Ranges::InBins(ranges)
 }
@@ -1594,7 +1916,10 @@ struct KeyFront {
 
 impl KeyFront {
     fn of(prefix: &[u8], shard: u8) -> KeyFront {
-        let mut front = KeyFront { bytes: [0; 16], length: prefix.len() + 1 };
+        let mut front = KeyFront {
+            bytes: [0; 16],
+            length: prefix.len() + 1,
+        };
         front.bytes[..prefix.len()].copy_from_slice(prefix);
         front.bytes[prefix.len()] = shard;
         front
@@ -1607,17 +1932,30 @@ impl KeyFront {
     }
 
     fn end(&self) -> End<'_> {
-        End { front: u128::from_be_bytes(self.bytes), bytes: &self.bytes[..self.length] }
+        End {
+            front: u128::from_be_bytes(self.bytes),
+            bytes: &self.bytes[..self.length],
+        }
     }
 }
 
 // Hands out the bytes of the rows whose keys are in the ranges, in all shards.
-fn scan<'a>(table: &'a Table, of: &FeatureType, index: Index, ranges: &Ranges, visit: &mut impl FnMut(&'a [u8])) {
+fn scan<'a>(
+    table: &'a Table,
+    of: &FeatureType,
+    index: Index,
+    ranges: &Ranges,
+    visit: &mut impl FnMut(&'a [u8]),
+) {
     let mut cursor = table.cursor();
     let mut prefix = Vec::new();
     of.put_prefix(index, &mut prefix);
     match ranges {
-        Ranges::All => cursor.scan(&End::of(&prefix), after(&prefix).as_deref().map(End::of).as_ref(), visit),
+        Ranges::All => cursor.scan(
+            &End::of(&prefix),
+            after(&prefix).as_deref().map(End::of).as_ref(),
+            visit,
+        ),
         Ranges::Ids(ids) => {
             for id in ids {
                 let low = [&prefix[..], id].concat();
@@ -1675,13 +2013,19 @@ struct Store {
 }
 
 fn past_blanks(text: &[u8]) -> &[u8] {
-    let count = text.iter().position(|byte| *byte != b' ' && *byte != b'\t').unwrap_or(text.len());
+    let count = text
+        .iter()
+        .position(|byte| *byte != b' ' && *byte != b'\t')
+        .unwrap_or(text.len());
     &text[count..]
 }
 
 fn split_word(text: &[u8]) -> (&[u8], &[u8]) {
     let text = past_blanks(text);
-    let count = text.iter().position(|byte| *byte == b' ' || *byte == b'\t').unwrap_or(text.len());
+    let count = text
+        .iter()
+        .position(|byte| *byte == b' ' || *byte == b'\t')
+        .unwrap_or(text.len());
     (&text[..count], past_blanks(&text[count..]))
 }
 
@@ -1706,10 +2050,16 @@ impl Store {
     }
 
     fn execute(&mut self, line: &[u8], reply: &mut Vec<u8>) -> Result<(), Refusal> {
-        if line.len() > 1 << 20 { return Err(TOO_LONG); }
+        if line.len() > 1 << 20 {
+            return Err(TOO_LONG);
+        }
         let line = line.strip_suffix(b"\r").unwrap_or(line);
-        if matches!(past_blanks(line), [] | [b'#', ..]) { return Ok(()); }
-        if std::str::from_utf8(line).is_err() { return Err(NOT_UTF8); }
+        if matches!(past_blanks(line), [] | [b'#', ..]) {
+            return Ok(());
+        }
+        if std::str::from_utf8(line).is_err() {
+            return Err(NOT_UTF8);
+        }
         let (verb, rest) = split_word(line);
         let (name, rest) = split_word(rest);
         match verb {
@@ -1723,7 +2073,9 @@ impl Store {
     }
 
     fn type_named(types: &[FeatureType], name: &[u8], rest: &[u8]) -> Result<usize, Refusal> {
-        if !is_name(name) || rest.is_empty() { return Err(FORM); }
+        if !is_name(name) || rest.is_empty() {
+            return Err(FORM);
+        }
         types.iter().position(|of| of.name == name).ok_or(NO_TYPE)
     }
 
@@ -1734,7 +2086,9 @@ impl Store {
             Err(refusal) => return Err(refusal),
         }
         let of = read_type(name, self.types.len() as u16, text).ok_or(SPECIFICATION)?;
-        if self.types.len() == 100 { return Err(LIMIT); }
+        if self.types.len() == 100 {
+            return Err(LIMIT);
+        }
         self.types.push(of);
         reply.extend_from_slice(b"ok create ");
         reply.extend_from_slice(name);
@@ -1750,7 +2104,9 @@ impl Store {
             Some(bytes) => Feature::from_bytes(of, bytes).keys(of),
             None => Vec::new(),
         };
-        if self.table.count + keys.len() > ROW_LIMIT + old_keys.len() { return Err(LIMIT); }
+        if self.table.count + keys.len() > ROW_LIMIT + old_keys.len() {
+            return Err(LIMIT);
+        }
         let replaced = !old_keys.is_empty();
         for key in old_keys.iter().filter(|key| !keys.contains(key)) {
             self.table.remove(key);
@@ -1767,8 +2123,15 @@ impl Store {
 
     fn delete(&mut self, name: &[u8], id: &[u8], reply: &mut Vec<u8>) -> Result<(), Refusal> {
         let of = &self.types[Self::type_named(&self.types, name, id)?];
-        if !is_identifier(id) { return Err(IDENTIFIER); }
-        let key = Feature { id, values: Vec::new() }.key(of, Index::Id).unwrap_or_default();
+        if !is_identifier(id) {
+            return Err(IDENTIFIER);
+        }
+        let key = Feature {
+            id,
+            values: Vec::new(),
+        }
+        .key(of, Index::Id)
+        .unwrap_or_default();
         let bytes = self.table.get(&key).ok_or(NO_FEATURE)?;
         for key in Feature::from_bytes(of, bytes).keys(of) {
             self.table.remove(&key);
@@ -1779,7 +2142,13 @@ impl Store {
         Ok(())
     }
 
-    fn ask(&self, name: &[u8], rest: &[u8], reply: &mut Vec<u8>, with_rows: bool) -> Result<(), Refusal> {
+    fn ask(
+        &self,
+        name: &[u8],
+        rest: &[u8],
+        reply: &mut Vec<u8>,
+        with_rows: bool,
+    ) -> Result<(), Refusal> {
         let (target, text) = split_option(b"target=", rest);
         let target = match target {
             Some(digits) if (1..=10).contains(&digits.len()) => read_digits(digits).ok_or(FORM)?,
@@ -1789,7 +2158,9 @@ impl Store {
         let of = &self.types[Self::type_named(&self.types, name, text)?];
         let tests = read_filter(of, text)?;
         let index = cheapest(of, &tests);
-        if !(1..=10_000).contains(&target) { return Err(LIMIT); }
+        if !(1..=10_000).contains(&target) {
+            return Err(LIMIT);
+        }
         let ranges = ranges_of(of, index, &tests, target as usize);
         let (mut matched, mut examined) = (0, 0);
         let mut found = Vec::new();
@@ -1797,11 +2168,17 @@ impl Store {
             examined += 1;
             if holds(&tests, of, bytes) {
                 matched += 1;
-                if with_rows { found.push(split_id(bytes)); }
+                if with_rows {
+                    found.push(split_id(bytes));
+                }
             }
         });
         found.sort_unstable_by_key(|(id, _)| *id);
-        reply.extend_from_slice(if with_rows { b"ok query " } else { b"ok count " });
+        reply.extend_from_slice(if with_rows {
+            b"ok query "
+        } else {
+            b"ok count "
+        });
         print_number(reply, matched);
         reply.extend_from_slice(b" of ");
         print_number(reply, examined);

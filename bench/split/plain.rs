@@ -152,13 +152,21 @@ impl Front {
         self.pieces.push(Piece::Partial(node, near));
     }
 
-    fn add<const D: usize, T: Tree<D>>(&mut self, tree: &T, node: Node, windows: &[Window], seen: u64) {
+    fn add<const D: usize, T: Tree<D>>(
+        &mut self,
+        tree: &T,
+        node: Node,
+        windows: &[Window],
+        seen: u64,
+    ) {
         let reach = tree.reach(&node);
         let mut left = seen;
         let mut near = 0;
         while left != 0 {
             let at = left.trailing_zeros();
-            let Some(window) = windows.get(at as usize) else { break };
+            let Some(window) = windows.get(at as usize) else {
+                break;
+            };
             left &= left - 1;
             if overlaps::<D>(&reach, window) {
                 if is_within::<D>(&reach, window) {
@@ -190,7 +198,11 @@ fn is_within<const D: usize>(reach: &(Cell, Cell), window: &Window) -> bool {
         && (D != 3 || window.low.t <= reach.0.t && reach.1.t <= window.high.t)
 }
 
-fn split<const D: usize, T: Tree<D>>(tree: &T, windows: &[Window], target: usize) -> (Vec<(u64, u64)>, u32) {
+fn split<const D: usize, T: Tree<D>>(
+    tree: &T,
+    windows: &[Window],
+    target: usize,
+) -> (Vec<(u64, u64)>, u32) {
     let root = Node {
         level: 0,
         first: 0,
@@ -291,7 +303,10 @@ fn measure<const D: usize, T: Tree<D>>(name: &str, tree: &T, count: u32, target:
         least = least.min(before.elapsed().as_nanos());
         last = (runs.len(), level);
     }
-    println!("{name}, {count} windows, target {target}: {} runs, level {}, {least} ns", last.0, last.1);
+    println!(
+        "{name}, {count} windows, target {target}: {} runs, level {}, {least} ns",
+        last.0, last.1
+    );
 }
 
 fn main() {
