@@ -5,24 +5,61 @@ ghost use Rattle.gm_base.specs.Code.{code_name, code_phrase};
 /// Why a line was refused. `docs/LANGUAGE.md` says when each comes.
 #[derive(Clone, Copy, Debug, PartialEq, Eq)]
 pub enum Code {
+    /// The line has too many bytes.
     E01,
+
+    /// The line is not UTF-8, and no comment.
     E02,
+
+    /// The first word is no command.
     E03,
+
+    /// Words of the command are missing, in excess or of the wrong form.
     E04,
+
+    /// The type that is to be made is there already.
     E05,
+
+    /// The type that is named is not there.
     E06,
+
+    /// The specification of a type breaks a rule.
     E07,
+
+    /// The row is not one record with a field for each attribute.
     E08,
+
+    /// A field of a kind other than geometry can't be read.
     E09,
+
+    /// A geometry can't be read, is faulty or of another kind.
     E10,
+
+    /// The default date has no bin, and an index wants one.
     E11,
+
+    /// The identifier has not its form.
     E12,
+
+    /// The feature that is to be deleted is not there.
     E13,
+
+    /// The filter is not in the grammar.
     E14,
+
+    /// A name in the filter is no attribute.
     E15,
+
+    /// A test has a literal that its attribute may not have.
     E16,
+
+    /// The type has no such index enabled.
     E17,
+
+    /// The index that is named does not apply to the filter.
     E18,
+
+    /// A limit of types, attributes, rows, targets or filters is passed.
     E19,
 }
 

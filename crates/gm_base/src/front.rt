@@ -1,5 +1,5 @@
 // The first bytes of a list, as one number.
-ghost use Rattle.std.specs.Prelude.{◌≡◌, ◌<◌, ℕ, List};
+ghost use Rattle.std.specs.Prelude.{◌≡◌, ℕ, List, IfSome};
 ghost use Rattle.std.specs.Ordering.{nat_cmp};
 ghost use Rattle.std.specs.Cmp.Lexicographic.{slice_cmp};
 ghost use Rattle.gm_base.specs.Front.{first_of, rest_of, IsFront, IsNumberOfFour};
@@ -52,8 +52,17 @@ fn take_byte(bytes: &[u8]) -> (u8, &[u8])
     }
 }
 
-/// Bytes are in the order of the numbers of their first bytes, where these differ.
-pub fn order_of_fronts()
-    ensures { (one other : ℕ) (xs ys : List ℕ) → IsFront one xs → IsFront other ys → one < other
-        → slice_cmp nat_cmp xs ys ≡ Ordering.Less }
-{}
+/// The order of bytes by the numbers of their first bytes. None where these are the same, so that
+/// the bytes themselves are to be compared.
+pub fn order_by_fronts(front: u128, other: u128) -> Option<Ordering>
+    ensures { IfSome result (λ order. (xs ys : List ℕ) → IsFront front xs → IsFront other ys
+        → slice_cmp nat_cmp xs ys ≡ order) }
+{
+    if front < other {
+        return Some(Ordering::Less);
+    }
+    if front > other {
+        return Some(Ordering::Greater);
+    }
+    None
+}

@@ -83,9 +83,7 @@ impl FeatureId {
 fn has_form(bytes: &[u8]) -> bool
     ensures { result ≡ has_identifier_form bytes.now }
 {
-    let fits = bytes.len() <= IDENTIFIER_LIMIT;
-    let some = !bytes.is_empty();
-    some && fits && are_printable(bytes)
+    !bytes.is_empty() && bytes.len() <= IDENTIFIER_LIMIT && are_printable(bytes)
 }
 
 // Whether no byte is a control character.

@@ -19,7 +19,7 @@ mod text;
 pub use bytes::Bytes;
 pub use code::Code;
 pub use counter::Counter;
-pub use front::{first_bytes, order_of_fronts};
+pub use front::{first_bytes, order_by_fronts};
 pub use hash::fnv1a;
 pub use identifier::{FeatureId, IdFault};
 pub use items::Items;

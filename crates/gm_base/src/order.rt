@@ -8,6 +8,7 @@ ghost use Rattle.std.specs.Cmp.Lexicographic.{nat_list_eq_equiv};
 ghost use Rattle.std.specs.Ordering.{nat_cmp, as_partial_cmp};
 ghost use Rattle.std.specs.Cmp as laws_of;
 
+use crate::front::order_by_fronts;
 use crate::{Bytes, FeatureId, Text};
 use std::cmp::Ordering;
 
@@ -17,7 +18,7 @@ impl PartialEq for Bytes {
     ghost laws = { laws_of.partial_equiv_from_equiv nat_list_eq_equiv };
 
     fn eq(&self, other: &Bytes) -> bool {
-        self.as_slice() == other.as_slice()
+        self.front() == other.front() && self.as_slice() == other.as_slice()
     }
 }
 
@@ -35,13 +36,8 @@ impl Ord for Bytes {
     ghost matches_eq = { Prim.search (comparing, rules) };
 
     fn cmp(&self, other: &Bytes) -> Ordering {
-        let front = self.front();
-        let other_front = other.front();
-        if front < other_front {
-            return Ordering::Less;
-        }
-        if front > other_front {
-            return Ordering::Greater;
+        if let Some(order) = order_by_fronts(self.front(), other.front()) {
+            return order;
         }
         self.as_slice().cmp(&other.as_slice())
     }

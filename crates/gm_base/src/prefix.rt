@@ -4,11 +4,14 @@ ghost use Rattle.std.specs.Prelude.{◌≡◌, ◌≤◌, ◌++◌, length, take
 use crate::NoMemory;
 use std::marker::Model;
 
+/// How many bytes a prefix has at most. An append wants room for so many, if only for a while.
+pub(crate) const PREFIX_ROOM: usize = 16;
+
 /// At most 16 bytes, held in place, which contracts see as their list. They are appended as one
 /// piece of fixed size, of which those in excess are then dropped.
 #[derive(Debug, Drop)]
 pub struct Prefix {
-    bytes: [u8; 16],
+    bytes: [u8; PREFIX_ROOM],
     count: usize,
 }
 
@@ -28,7 +31,7 @@ impl Prefix {
         ensures { result ≡ bytes.now }
     {
         let count = bytes.len();
-        let mut room = [0u8; 16];
+        let mut room = [0u8; PREFIX_ROOM];
         room[..count].copy_from_slice(bytes);
         Prefix { bytes: room, count }
     }

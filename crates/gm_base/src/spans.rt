@@ -3,7 +3,7 @@ ghost use Rattle.std.specs.Prelude.{◌≡◌, ◌<◌, ◌≤◌, ◌++◌, ◌
 ghost use Rattle.std.specs.Prelude.{slice_index_or, IsTrue, IfOk, OnOk, OnErr};
 ghost use Rattle.gm_base.specs.Spans.{Span, joined, AreEnds, spans_from, start_at};
 
-use crate::prefix::append_first;
+use crate::prefix::{PREFIX_ROOM, append_first};
 use crate::{NoMemory, Prefix};
 use std::alloc::Global;
 use std::marker::Model;
@@ -47,12 +47,13 @@ impl SpanList {
         }
     }
 
-    /// A list with room for so many spans, whose ends have so many bytes together.
+    /// A list with room for so many spans, whose ends have so many bytes together, and for what an
+    /// append behind a prefix wants for a while, where its arrays have at most 16 bytes.
     pub fn with_capacity(alloc: Global, spans: usize, bytes: usize) -> Result<SpanList, NoMemory>
         ensures { IfOk result (λ list. list ≡ []) }
     {
         Ok(SpanList {
-            bytes: Vec::with_capacity(alloc, bytes)?,
+            bytes: Vec::with_capacity(alloc, bytes.saturating_add(PREFIX_ROOM))?,
             ends: Vec::with_capacity(alloc, spans)?,
         })
     }

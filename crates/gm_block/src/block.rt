@@ -14,7 +14,7 @@ use std::alloc::Global;
 const MARK: &[u8] = b"GMBK0001";
 
 // How many rows a block has at most.
-const MOST: u32 = 4096;
+const ROW_LIMIT: u32 = 4096;
 
 // How many bytes a row has at least: the lengths of its key and of its bytes.
 const LEAST: usize = 8;
@@ -66,13 +66,13 @@ fn read_head(bytes: &[u8]) -> Option<(u32, &[u8])>
     let Some((count, rest)) = read_number(rest) else {
         return None;
     };
-    if count < 1 || count > MOST {
+    if !(1..=ROW_LIMIT).contains(&count) {
         return None;
     }
     Some((count, rest))
 }
 
-// So many rows, at most `MOST`. None where these are not the bytes of so many.
+// So many rows, at most `ROW_LIMIT`. None where these are not the bytes of so many.
 fn read_rows(alloc: Global, bytes: &[u8], count: u32) -> Result<Option<Vec<Row>>, NoMemory>
     ensures { IfOk result (λ found. MatchOption found
         ((rows : List Row) → AreRows count rows bytes.now → ⊥)

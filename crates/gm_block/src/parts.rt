@@ -31,9 +31,7 @@ pub(crate) fn read_part(bytes: &[u8]) -> Option<(&[u8], &[u8])>
         ((part rest : List ℕ) → length part < 2 ^ 32 → bytes.now ≡ part_bytes part ++ rest → ⊥)
         (λ it. (bytes.now ≡ part_bytes it.0.now ++ it.1.now) × (length it.0.now < 2 ^ 32)) }
 {
-    let Some((count, rest)) = read_number(bytes) else {
-        return None;
-    };
+    let (count, rest) = read_number(bytes)?;
     let count = count as usize;
     if rest.len() < count {
         return None;
@@ -48,12 +46,8 @@ pub(crate) fn read_row(bytes: &[u8]) -> Option<(Lent<'_>, &[u8])>
         (λ it. let row : Row = record { key = it.0.key.now; bytes = it.0.bytes.now } in
         (bytes.now ≡ row_bytes row ++ it.1.now) × IsShort row) }
 {
-    let Some((key, later)) = read_part(bytes) else {
-        return None;
-    };
-    let Some((part, rest)) = read_part(later) else {
-        return None;
-    };
+    let (key, later) = read_part(bytes)?;
+    let (part, rest) = read_part(later)?;
     Some((Lent { key, bytes: part }, rest))
 }
 

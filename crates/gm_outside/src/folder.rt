@@ -17,7 +17,10 @@ pub type Names = Items<Text>;
 /// Why a folder's call was not done.
 #[derive(Clone, Copy, Debug, PartialEq, Eq)]
 pub enum FolderRefusal {
+    /// The device failed, which counts as a fault.
     Failed,
+
+    /// There was no memory for what the call wants.
     NoMemory,
 }
 

@@ -1,10 +1,11 @@
-// What the pieces of a parallel phase pass.
+// Gates of parallel phases.
 
-/// A parallel phase calls `enter` before each piece and `leave` after it, with the piece's number.
-/// A test's gate can hold a piece until another has come.
+/// What the pieces of a parallel phase pass. A test's gate can hold a piece until another has come.
 pub trait Gate {
+    /// Comes before the piece of this number.
     fn enter(&self, piece: usize);
 
+    /// Comes after it.
     fn leave(&self, piece: usize);
 }
 

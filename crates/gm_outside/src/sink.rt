@@ -11,7 +11,10 @@ use std::alloc::Global;
 /// Why a sink took nothing.
 #[derive(Clone, Copy, Debug, PartialEq, Eq)]
 pub enum SinkRefusal {
+    /// The device failed, which counts as a fault.
     Failed,
+
+    /// There was no memory for the bytes.
     NoMemory,
 }
 

@@ -34,13 +34,8 @@ pub(crate) fn insert(
         runs[count - 1] = (last.0, last.1.max(high));
         return Ok(());
     }
-    match joined(alloc, runs, low, high) {
-        Ok(all) => {
-            *runs = all;
-            Ok(())
-        }
-        Err(error) => Err(error),
-    }
+    *runs = joined(alloc, runs, low, high)?;
+    Ok(())
 }
 
 // The list with the numbers from low to high, joined with the runs that they touch.
@@ -52,7 +47,7 @@ fn joined(
 ) -> Result<Vec<(u64, u64)>, NoMemory>
     ensures { IfOk result (λ all. all.items ≡ inserted low high runs.now) }
 {
-    let mut all = Vec::with_capacity(alloc, runs.len())?;
+    let mut all = Vec::with_capacity(alloc, runs.len() + 1)?;
     let mut kept = Some((low, high));
     for run in runs {
         join_one(&mut all, &mut kept, *run)?;

@@ -43,9 +43,7 @@ impl Runs {
         ensures err { OnErr result (self.new ≡ self.old) }
         ensures runs { AreRuns self.new }
     {
-        if let Err(error) = list::insert(alloc, &mut self.items, low, high) {
-            return Err(error);
-        }
+        list::insert(alloc, &mut self.items, low, high)?;
         Ok(())
     }
 

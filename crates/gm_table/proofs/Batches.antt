@@ -2,22 +2,15 @@
 use Rattle.std.proofs.Common.{◌≡◌, ◌∙◌, ◌||◌, ◌&&◌, not, ℕ, Bool, true, false, List, [], ◌∷◌, ◌++◌}
 use Rattle.std.proofs.Common.{map, Option, Some, refl, ap}
 use Rattle.std.specs.Prelude.{if◌then◌else◌}
-use Rattle.std.specs.Ordering.{nat_cmp, is_eq}
-use Rattle.std.specs.Cmp.{tied_itself}
-use Rattle.std.specs.Cmp.Lexicographic.{slice_cmp, nat_list_cmp_total}
-use Rattle.std.specs.BTreeMap.{is_at}
 use Rattle.gm_base.proofs.Booleans.{neither_of}
 use Rattle.gm_table.specs.declared.row.Row.{Row}
 use Rattle.gm_table.specs.Row.{key_of}
 use Rattle.gm_table.specs.Batch.{has_key, are_distinct, put_at}
-use Rattle.gm_table.proofs.Keys.{turned}
+use Rattle.gm_table.proofs.Keys.{itself, turned}
 
 each : (a b : Bool) → (not a && b) ≡ true → (a ≡ false) × (b ≡ true)
 each true b both = cc
 each false b both = (refl, both)
-
-itself : (key : List ℕ) → is_at (slice_cmp nat_cmp key) key ≡ true
-itself key = ap is_eq (tied_itself nat_list_cmp_total key)
 
 -- a key that is none of two lists is none of either
 pub has_key-append : (key : List ℕ) (front back : List (List ℕ))

@@ -3,14 +3,14 @@ use Rattle.std.proofs.Common.{◌≡◌, List, [], ◌∷◌, ◌++◌, append_a
 use Rattle.std.proofs.Common.{◌≤◌, length, take, drop, get_or, refl, sym, ap, subst, ◌∙◌, arith}
 use Rattle.std.proofs.Common.{length-append}
 use Rattle.std.proofs.Math.ListN.{set}
-use Rattle.std.proofs.lemmas.List.{get_or_default}
+use Rattle.std.proofs.lemmas.List.{get_or_default, append-nil}
 use Rattle.std.specs.List.{insert, remove}
 use Rattle.std.specs.Prelude.{Result, Ok, Err, OnErr}
 use Rattle.gm_table.specs.declared.row.Row.{Row}
 use Rattle.gm_table.specs.declared.blocks.block.Block.{Block}
 use Rattle.gm_table.specs.Blocks.{pair_of, pairs_of, rows_of, lists_of, most_rows, IsPlace, IsRowAt}
 use Rattle.gm_table.specs.Blocks.{HasRoom, IsCut, rows_at, rows_until}
-use Rattle.gm_table.proofs.BlockWalks.{append_none, rows_at_get, none_behind}
+use Rattle.gm_table.proofs.BlockWalks.{rows_at_get, none_behind}
 
 -- ---- lists in two parts
 pub pairs_join : (xs ys : List Row) → pairs_of (xs ++ ys) ≡ pairs_of xs ++ pairs_of ys
@@ -77,7 +77,7 @@ pub until_next : (blocks : List Block) (n row : ℕ) (d : Block) → suc n < len
 until_next [] n row d within end = absurd (omega arith)
 until_next (block ∷ []) n row d within end = absurd (omega arith)
 until_next (block ∷ other ∷ blocks) zero row d within end =
-    append_none (pairs_of block.rows) ∙ ap pairs_of (sym (take_all block.rows row end))
+    append-nil (pairs_of block.rows) ∙ ap pairs_of (sym (take_all block.rows row end))
 until_next (block ∷ other ∷ blocks) (suc n) row d within end =
     ap (λ later. pairs_of block.rows ++ later)
     (until_next (other ∷ blocks) n row d (omega arith) end)
@@ -150,7 +150,7 @@ pub end_behind : (blocks : List Block) (n at : ℕ) (row : Row) → rows_at n at
 end_behind blocks n at row none =
     ap (λ some. some ++ pair_of row ∷ [])
     (both_sides n at blocks ∙ ap (λ some. rows_until n at blocks ++ some) none
-    ∙ append_none (rows_until n at blocks))
+    ∙ append-nil (rows_until n at blocks))
     ∙ ap (λ some. rows_until n at blocks ++ pair_of row ∷ some) (sym none)
 
 -- ---- a block in place of another
@@ -245,7 +245,7 @@ gone blocks n row d within one inside =
     let none : pairs_of (drop (suc row) rows) ≡ [] =
     ap pairs_of (drop_all rows (suc row) (omega (arith, one))) in
     let before : rows_until n row blocks ≡ front =
-    ap (λ k. rows_until n k blocks) first ∙ until_get blocks n 0 d within ∙ append_none front in
+    ap (λ k. rows_until n k blocks) first ∙ until_get blocks n 0 d within ∙ append-nil front in
     let after : rows_at n (suc row) blocks ≡ back =
     rows_at_get blocks n (suc row) d within ∙ ap (λ some. some ++ back) none in
     rows_join (take n blocks) (drop (suc n) blocks) ∙ ap (λ some. some ++ back) (sym before)
@@ -364,7 +364,7 @@ set_same blocks n new d within same =
     rows_set blocks n new within ∙ ap (λ (rows : List Row). front ++ (pairs_of rows ++ back)) same
     ∙ ap (λ later. front ++ later) (sym (rows_at_get blocks n 0 d within))
     ∙ ap (λ some. some ++ rows_at n 0 blocks)
-    (sym (append_none front) ∙ sym (until_get blocks n 0 d within))
+    (sym (append-nil front) ∙ sym (until_get blocks n 0 d within))
     ∙ sym (both_sides n 0 blocks)
 
 pub place_within : (blocks : List Block) (n row : ℕ) → 0 < length blocks → IsPlace n row blocks

@@ -3,7 +3,6 @@ use Rattle.std.proofs.Common.{◌≡◌, List, [], ◌∷◌, ◌++◌, ℕ, tru
 use Rattle.std.proofs.Common.{◌+◌, refl, sym, ap, subst, ◌∙◌, arith}
 use Rattle.std.specs.Prelude.{Option, None, Some, if◌then◌else◌}
 use Rattle.std.specs.Ordering.{nat_cmp, is_le, is_eq, ordering_reverse}
-use Rattle.std.specs.Cmp.{tied_itself}
 use Rattle.std.specs.Cmp.Lexicographic.{slice_cmp, nat_list_cmp_total}
 use Rattle.std.specs.declared.cmp.Ordering.{Ordering}
 use Rattle.std.specs.declared.cmp.Ordering.TheVariants.{Less, Equal, Greater}
@@ -15,7 +14,7 @@ use Rattle.gm_table.specs.Sorted.{Rows, IsRising, at_key}
 use Rattle.gm_table.specs.Cursor.{rows_below, rows_after}
 use Rattle.gm_table.specs.Blocks.{IsGap}
 use Rattle.gm_table.specs.Changes.{given_back, restored_at}
-use Rattle.gm_table.proofs.Keys.{same_key}
+use Rattle.gm_table.proofs.Keys.{itself, same_key}
 use Rattle.gm_table.proofs.BlockPlaces.{less_of}
 use Rattle.gm_table.proofs.BlockLookups.{none_later}
 use Rattle.gm_table.proofs.BlockWalks.{below_away}
@@ -102,9 +101,6 @@ at_back key [] ys below = refl
 at_back key (x ∷ xs) ys below =
     ap (λ b. cond b (Some x.1) (at_key key (xs ++ ys))) (turned_round x.0 key below.0)
     ∙ at_back key xs ys below.1
-
-itself : (key : List ℕ) → is_at (slice_cmp nat_cmp key) key ≡ true
-itself key = ap is_eq (tied_itself nat_list_cmp_total key)
 
 pub at_there : (key bytes : List ℕ) (xs ys : Rows) → IsGap key xs ys
     → at_key key (xs ++ (key, bytes) ∷ ys) ≡ Some bytes

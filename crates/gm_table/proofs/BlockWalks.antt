@@ -2,7 +2,7 @@
 use Rattle.std.proofs.Common.{◌≡◌, List, [], ◌∷◌, ◌++◌, append_assoc, ℕ, zero, suc, ◌+◌, ◌-◌, ◌<◌}
 use Rattle.std.proofs.Common.{◌≤◌, true, false, cond, length, take, drop, get_or, refl, sym, ap}
 use Rattle.std.proofs.Common.{subst, ◌∙◌, arith, length-append, length-drop}
-use Rattle.std.proofs.lemmas.List.{take_more, drop-drop, length-map}
+use Rattle.std.proofs.lemmas.List.{take_more, drop-drop, length-map, append-nil}
 use Rattle.std.specs.Prelude.{Result, ⊤}
 use Rattle.std.specs.Ordering.{nat_cmp, is_le}
 use Rattle.std.specs.Cmp.Lexicographic.{slice_cmp}
@@ -72,10 +72,6 @@ none_behind (block ∷ other ∷ blocks) zero last = absurd (omega (arith, last)
 none_behind (block ∷ blocks) (suc n) last = none_behind blocks n (omega (arith, last))
 
 -- ---- rows before a key, and others behind them
-pub append_none : (xs : Rows) → xs ++ [] ≡ xs
-append_none [] = refl
-append_none (x ∷ xs) = ap (λ ys. x ∷ ys) (append_none xs)
-
 pub no_more : (n : ℕ) → 0 < n → n ≡ 0 → ⊥
 no_more n some none = omega (arith, some, none)
 
@@ -220,7 +216,7 @@ ends_last key blocks n row count end d within is few last from =
     let none = none_behind blocks n last in
     let here = after_drop key rows row count end is from in
     let alone = λ (k : ℕ). rows_at_get blocks n k d within
-    ∙ ap (λ ys. pairs_of (drop k rows) ++ ys) none ∙ append_none (pairs_of (drop k rows)) in
+    ∙ ap (λ ys. pairs_of (drop k rows) ++ ys) none ∙ append-nil (pairs_of (drop k rows)) in
     record {
       place = place_at blocks n end d within few;
       below = ap (rows_below key) (alone row);
@@ -309,7 +305,7 @@ pub walked_out : {V : Type 0} (takes : V → List ℕ → List ℕ → Result �
     → Walked takes before mid key all number now
 walked_out takes before mid key all left number now none walk =
     let whole : rows_below key all ≡ walk.done =
-    walk.below ∙ ap (λ rows. walk.done ++ rows_below key rows) none ∙ append_none walk.done in
+    walk.below ∙ ap (λ rows. walk.done ++ rows_below key rows) none ∙ append-nil walk.done in
     record {
       handed = subst (λ rows. Handed takes before rows mid) (sym whole) walk.handed;
       tally = walk.tally ∙ ap (λ rows. capped_sum number (length rows)) (sym whole);

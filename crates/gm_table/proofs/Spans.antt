@@ -1,8 +1,8 @@
 -- Rows that are handed out span by span.
 use Rattle.std.proofs.Common.{◌≡◌, List, [], ◌∷◌, ◌++◌, ℕ, ◌+◌, ◌-◌, ◌<◌, ◌≤◌, zero, suc, length}
-use Rattle.std.proofs.Common.{take, drop, get_or, refl, sym, ap, subst, ◌∙◌, arith, append_assoc}
+use Rattle.std.proofs.Common.{take, drop, get_or, sym, ap, subst, ◌∙◌, arith, append_assoc}
 use Rattle.std.proofs.Common.{length-append}
-use Rattle.std.proofs.lemmas.List.{take_more}
+use Rattle.std.proofs.lemmas.List.{take_more, append-nil}
 use Rattle.std.proofs.lemmas.List.Elements.{All-nil, All-cons, All-head, All-tail, All-weaker}
 use Rattle.std.proofs.lemmas.Grind.{common_steps}
 use Rattle.std.specs.Prelude.{Result, Ok, ⊤, All, slice_range}
@@ -13,14 +13,10 @@ use Rattle.gm_table.specs.Sorted.{Rows, between}
 use Rattle.gm_table.specs.Spans.{rows_in}
 use Rattle.gm_table.specs.Visit.{Handed, Stops}
 
-pub append_nil : (xs : Rows) → xs ++ [] ≡ xs
-append_nil [] = refl
-append_nil (x ∷ xs) = ap (λ ys. x ∷ ys) (append_nil xs)
-
 -- ---- the rows of more spans
 pub rows_in-push : (spans : List Span) (span : Span) (rows : Rows)
     → rows_in (spans ++ span ∷ []) rows ≡ rows_in spans rows ++ between span.0 span.1 rows
-rows_in-push [] span rows = append_nil (between span.0 span.1 rows)
+rows_in-push [] span rows = append-nil (between span.0 span.1 rows)
 rows_in-push (first ∷ spans) span rows =
     ap (λ later. between first.0 first.1 rows ++ later) (rows_in-push spans span rows)
     ∙ sym (append_assoc (between first.0 first.1 rows) (rows_in spans rows)

@@ -4,7 +4,7 @@ ghost use Rattle.std.specs.Ordering.{nat_cmp, is_le};
 ghost use Rattle.std.specs.Cmp.Lexicographic.{slice_cmp};
 ghost use Rattle.gm_base.specs.Front.{IsFront};
 
-use gm_base::{Bytes, first_bytes, order_of_fronts};
+use gm_base::{Bytes, first_bytes, order_by_fronts};
 use std::marker::Model;
 
 /// A key that is lent, with the number of its first bytes. It is seen as its bytes.
@@ -63,13 +63,8 @@ impl<'a> End<'a> {
     pub(crate) fn is_reached(&self, key: &Bytes) -> bool
         ensures { result ≡ is_le (slice_cmp nat_cmp self.now key.now) }
     {
-        order_of_fronts();
-        let front = key.front();
-        if self.front < front {
-            return true;
-        }
-        if self.front > front {
-            return false;
+        if let Some(order) = order_by_fronts(self.front, key.front()) {
+            return order.is_le();
         }
         self.bytes.cmp(&key.as_slice()).is_le()
     }
@@ -78,13 +73,8 @@ impl<'a> End<'a> {
     pub(crate) fn is_up_to(&self, other: &End<'_>) -> bool
         ensures { result ≡ is_le (slice_cmp nat_cmp self.now other.now) }
     {
-        order_of_fronts();
-        let front = other.front();
-        if self.front < front {
-            return true;
-        }
-        if self.front > front {
-            return false;
+        if let Some(order) = order_by_fronts(self.front, other.front()) {
+            return order.is_le();
         }
         self.bytes.cmp(&other.bytes()).is_le()
     }

@@ -10,6 +10,7 @@ use crate::{Batch, Sorted};
 use gm_base::{Items, NoMemory};
 use std::alloc::Global;
 
+/// Changes of a table, in the order in which they are made.
 pub type BatchList = Items<Batch>;
 
 /// Makes these changes in order. After `NoMemory` some first ones of them are made.

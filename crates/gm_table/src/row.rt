@@ -22,6 +22,8 @@ impl Row {
     }
 }
 
+/// Rows, seen as their list.
 pub type RowList = Items<Row>;
 
+/// Keys, seen as their list.
 pub type KeyList = Items<Bytes>;

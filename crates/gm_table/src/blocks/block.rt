@@ -9,7 +9,7 @@ ghost use Rattle.gm_table.specs.declared.row.Row.{Row};
 
 use crate::end::End;
 use crate::{Row, RowList};
-use gm_base::{Bytes, NoMemory, order_of_fronts};
+use gm_base::{Bytes, NoMemory, order_by_fronts};
 use std::alloc::Global;
 use std::mem;
 
@@ -26,12 +26,8 @@ impl Block {
         requires { IsBlock self.now }
         ensures { result ≡ is_le (slice_cmp nat_cmp (first_key self.now.rows) key.now) }
     {
-        order_of_fronts();
-        if self.front < key.front() {
-            return true;
-        }
-        if self.front > key.front() {
-            return false;
+        if let Some(order) = order_by_fronts(self.front, key.front()) {
+            return order.is_le();
         }
         self.rows.as_slice()[0]
             .key

@@ -13,11 +13,11 @@ use crate::blocks::search::Place;
 use gm_base::{Bytes, NoMemory};
 use std::alloc::Global;
 
-// A block of so many rows is cut in two before another row is put in.
-const MOST: usize = 128;
+// A block of so many rows is cut in two before another row is put in. Contracts allow it 4,096.
+const CUT_AT: usize = 128;
 
 // How many rows the first of the two keeps.
-const HALF: usize = MOST / 2;
+const HALF: usize = CUT_AT / 2;
 
 // A block of no more rows is dropped when one of them is taken out.
 const FEWEST: usize = 1;
@@ -59,7 +59,7 @@ fn begins_block(blocks: &[Block], at: Place) -> bool
         return false;
     }
     let count = blocks[at.block].rows.len();
-    at.row >= count && count >= MOST
+    at.row >= count && count >= CUT_AT
 }
 
 // Puts a row in behind all others, in a block of its own.
@@ -90,7 +90,7 @@ fn make_room(alloc: Global, list: &mut Vec<Block>, at: Place) -> Result<Place, N
         ≡ rows_of (lists_of list.old.items)) }
     ensures each { AllByRecursion IsBlock list.new.items }
 {
-    if list[at.block].rows.len() < MOST {
+    if list[at.block].rows.len() < CUT_AT {
         return Ok(at);
     }
     cut(alloc, list, at.block)?;
@@ -107,20 +107,16 @@ fn make_room(alloc: Global, list: &mut Vec<Block>, at: Place) -> Result<Place, N
 fn cut(alloc: Global, list: &mut Vec<Block>, n: usize) -> Result<(), NoMemory>
     requires each { AllByRecursion IsBlock list.old.items }
     requires within { n < length list.old.items }
-    requires many { (d : Block) → MOST ≤ length (slice_index_or list.old.items n d).rows }
+    requires many { (d : Block) → CUT_AT ≤ length (slice_index_or list.old.items n d).rows }
     ensures ok { OnOk result (IsCut n HALF list.old.items list.new.items) }
     ensures err { OnErr result (rows_of (lists_of list.new.items)
         ≡ rows_of (lists_of list.old.items)) }
     ensures each { AllByRecursion IsBlock list.new.items }
 {
     list.reserve(1)?;
-    match list[n].split(alloc, HALF) {
-        Ok(later) => {
-            let _ = list.insert(n + 1, later);
-            Ok(())
-        }
-        Err(error) => Err(error),
-    }
+    let later = list[n].split(alloc, HALF)?;
+    let _ = list.insert(n + 1, later);
+    Ok(())
 }
 
 /// Gives a row other bytes, and answers those that it had.

@@ -230,13 +230,11 @@ fn step_to(blocks: &[Block], at: Place, key: &End<'_>) -> Option<Place>
         return None;
     }
     let rest = rest_of(blocks[at.block].rows.as_slice(), at.row);
-    match place_inside(rest, key) {
-        Some(count) => Some(Place {
-            block: at.block,
-            row: at.row + count,
-        }),
-        None => None,
-    }
+    let count = place_inside(rest, key)?;
+    Some(Place {
+        block: at.block,
+        row: at.row + count,
+    })
 }
 
 // How many of the rows are before the key, if the last of them is not.
@@ -246,9 +244,7 @@ fn place_inside(rows: &[Row], key: &End<'_>) -> Option<usize>
     ensures from { IfSome result (λ count. pairs_of (drop count rows.now)
         ≡ rows_after key.now (pairs_of rows.now)) }
 {
-    let Some(last) = rows.last() else {
-        return None;
-    };
+    let last = rows.last()?;
     if !key.is_reached(&last.key) {
         return None;
     }

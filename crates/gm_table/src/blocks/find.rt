@@ -28,8 +28,7 @@ pub(crate) fn find_row(blocks: &[Block], key: &Bytes) -> Result<Place, Place>
     if at.row >= rows.len() {
         return Err(at);
     }
-    // Not `==`, which would look behind the pointers of keys that differ in their first bytes.
-    if key.cmp(&rows[at.row].key).is_eq() {
+    if *key == rows[at.row].key {
         return Ok(at);
     }
     Err(at)

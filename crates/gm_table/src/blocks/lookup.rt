@@ -21,7 +21,7 @@ pub(crate) fn bytes_at<'a>(blocks: &'a [Block], key: &Bytes) -> Option<&'a [u8]>
     match row_at(blocks, place) {
         None => None,
         Some(row) => {
-            if key.cmp(&row.key).is_eq() {
+            if *key == row.key {
                 return Some(row.bytes.as_slice());
             }
             None

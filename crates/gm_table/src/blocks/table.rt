@@ -22,7 +22,8 @@ use gm_base::{Bytes, NoMemory, SpanList, Tally};
 use std::alloc::Global;
 use std::ops::Range;
 
-/// A table whose rows stand in blocks: sorted lists of 1 to 4,096 rows, in the order of their keys.
+/// A table whose rows stand in blocks: sorted lists, in the order of their keys. A block is cut in
+/// two at 128 rows; the contracts allow it 1 to 4,096.
 #[derive(Debug, Drop)]
 pub struct BlockTable {
     list: Vec<Block>,

@@ -5,13 +5,14 @@ use Rattle.std.specs.Ordering.{nat_cmp, is_le}
 use Rattle.std.specs.Cmp.Lexicographic.{slice_cmp}
 use Rattle.std.proofs.lemmas.Result.{err_from_is_err_and, IfErr-weaker, on_ok_weaker}
 use Rattle.std.proofs.lemmas.Grind.{common_steps}
+use Rattle.std.proofs.lemmas.List.{append-nil}
 use Rattle.std.proofs.lemmas.List.Elements.{All-weaker}
 use Rattle.gm_base.specs.Tally.{tally_number}
 use Rattle.gm_table.specs.Cursor.{pending, rows_below, IsLastOf}
 use Rattle.gm_table.specs.Visit.{Handed}
 use Rattle.gm_table.proofs.Handing.{one_of}
 use Rattle.gm_table.proofs.Places.{less-last}
-use Rattle.gm_table.proofs.Spans.{append_nil, All-back, Handed-both, stops_after, capped_more}
+use Rattle.gm_table.proofs.Spans.{All-back, Handed-both, stops_after, capped_more}
 use Rattle.gm_table.proofs.Walks.{Walk, pending-steps, below-more, Walk-more, Walk-stops}
 use Rattle.gm_table.proofs.cursor.hand_out.Goals as goal
 
@@ -115,7 +116,7 @@ returns-clause-stopped g c =
       length walk.done + stopped.0,
       stops_after g.V.Visit.takes c.args.visit.now c.few.visit c.hand_out_many.new.visit walk.done
           left [] _ fault stopped.0
-          (walk.below ∙ ap (λ rows. walk.done ++ rows) (sym (append_nil left)))
+          (walk.below ∙ ap (λ rows. walk.done ++ rows) (sym (append-nil left)))
           walk.handed stopped.1,
       capped_more _ _ _ (length walk.done) stopped.0 _ walk.tally stopped.2 (omega arith),
     )) c.hand_out_many.ensures.stopped

@@ -2,7 +2,7 @@ use Rattle.std.proofs.Common.{◌≡◌, ◌+◌, ◌-◌, ◌<◌, ◌≤◌, s
 use Rattle.std.proofs.Common.{arith}
 use Rattle.std.proofs.lemmas.List.{get_or_default}
 use Rattle.gm_table.specs.declared.blocks.block.Block.{Block}
-use Rattle.gm_table.specs.declared.blocks.change.TheConstants.{HALF, MOST}
+use Rattle.gm_table.specs.declared.blocks.change.TheConstants.{HALF, CUT_AT}
 use Rattle.gm_table.specs.Blocks.{HasRoom, most_rows, rows_at, rows_until}
 use Rattle.gm_table.proofs.BlockPlaces.{block_at}
 use Rattle.gm_table.proofs.BlockWalks.{place_bound}
@@ -18,8 +18,8 @@ index-requires c =
           c.requires.place,
     )
 
-pub returns-then-len-lt-MOST-clause-room : goal.returns-then-len-lt-MOST-clause-room
-returns-then-len-lt-MOST-clause-room c =
+pub returns-then-len-lt-CUT_AT-clause-room : goal.returns-then-len-lt-CUT_AT-clause-room
+returns-then-len-lt-CUT_AT-clause-room c =
     let blocks = c.args.list.now.items in
     let n = c.args.at.block in
     let row = c.args.at.row in
@@ -30,7 +30,7 @@ returns-then-len-lt-MOST-clause-room c =
       inside = λ e. place_bound blocks n row e c.requires.place within;
       room = λ e. subst (λ (block : Block). length block.rows < most_rows)
           (c.index.ensures ∙ get_or_default blocks n d e within)
-          (omega (arith, c.len.ensures, c.if-len-lt-MOST.true));
+          (omega (arith, c.len.ensures, c.if-len-lt-CUT_AT.true));
     }
 
 pub cut-requires-clause-within : goal.cut-requires-clause-within
@@ -45,9 +45,9 @@ cut-requires-clause-many c = λ e.
     let row = c.args.at.row in
     let d : Block = c.index.result.now in
     let within : n < length blocks = place_within blocks n row c.requires.some c.requires.place in
-    subst (λ (block : Block). MOST ≤ length block.rows)
+    subst (λ (block : Block). CUT_AT ≤ length block.rows)
     (c.index.ensures ∙ get_or_default blocks n d e within)
-    (omega (arith, c.len.ensures, c.if-len-lt-MOST.false))
+    (omega (arith, c.len.ensures, c.if-len-lt-CUT_AT.false))
 
 pub returns-then-at-le-HALF-clause-room : goal.returns-then-at-le-HALF-clause-room
 returns-then-at-le-HALF-clause-room c =
@@ -58,7 +58,7 @@ returns-then-at-le-HALF-clause-room c =
     let within : n < length blocks = place_within blocks n row c.requires.some c.requires.place in
     let few : HALF ≤ length (get_or blocks n d).rows =
     subst (λ (block : Block). HALF ≤ length block.rows) c.index.ensures
-    (omega (arith, c.len.ensures, c.if-len-lt-MOST.false)) in
+    (omega (arith, c.len.ensures, c.if-len-lt-CUT_AT.false)) in
     let same = same_first blocks c.cut.new.list.items n HALF row d c.in_ok-cut.ensures.ok within
     c.if-at-le-HALF.true few (omega arith) in
     same.room
@@ -72,7 +72,7 @@ returns-then-at-le-HALF-clause-until c =
     let within : n < length blocks = place_within blocks n row c.requires.some c.requires.place in
     let few : HALF ≤ length (get_or blocks n d).rows =
     subst (λ (block : Block). HALF ≤ length block.rows) c.index.ensures
-    (omega (arith, c.len.ensures, c.if-len-lt-MOST.false)) in
+    (omega (arith, c.len.ensures, c.if-len-lt-CUT_AT.false)) in
     let same = same_first blocks c.cut.new.list.items n HALF row d c.in_ok-cut.ensures.ok within
     c.if-at-le-HALF.true few (omega arith) in
     same.until
@@ -86,7 +86,7 @@ returns-then-at-le-HALF-clause-from c =
     let within : n < length blocks = place_within blocks n row c.requires.some c.requires.place in
     let few : HALF ≤ length (get_or blocks n d).rows =
     subst (λ (block : Block). HALF ≤ length block.rows) c.index.ensures
-    (omega (arith, c.len.ensures, c.if-len-lt-MOST.false)) in
+    (omega (arith, c.len.ensures, c.if-len-lt-CUT_AT.false)) in
     let same = same_first blocks c.cut.new.list.items n HALF row d c.in_ok-cut.ensures.ok within
     c.if-at-le-HALF.true few (omega arith) in
     same.from

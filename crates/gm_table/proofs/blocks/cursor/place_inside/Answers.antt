@@ -14,9 +14,9 @@ pub returns-clause-inside : goal.returns-clause-inside
 returns-clause-inside c =
     let rows = c.args.rows.now in
     let key = c.args.key.now in
-    let last = c.in-Some.last.now in
+    let last = c.in_ok-last.last.now in
     let count = c.place_in.result in
-    let item = c.in-Some.ensures.item in
+    let item = c.in_ok-last.ensures.item in
     let reached : is_le (slice_cmp nat_cmp key last.key) ≡ true = grind (arith, common_steps) in
     let some : 0 < length (rows_after key (pairs_of rows)) =
     some_after key rows (length rows - 1) last (omega (arith, item.3.0))

@@ -5,7 +5,7 @@ use Rattle.gm_table.specs.Cursor.{rows_after}
 use Rattle.gm_table.specs.Sorted.{IsRising}
 use Rattle.gm_table.proofs.BlockPlaces.{block_rises, rising_drop}
 use Rattle.gm_table.proofs.BlockWalks.{Ends, place_bound, ends_within}
-use Rattle.gm_table.proofs.blocks.cursor.step_to.Goals.{In-Some}
+use Rattle.gm_table.proofs.blocks.cursor.step_to.Goals.{In_ok-count}
 use Rattle.gm_table.proofs.blocks.cursor.step_to.Goals as goal
 
 pub rest_of-rest-requires : goal.rest_of-rest-requires
@@ -26,30 +26,30 @@ place_inside-requires c =
     (block_rises c.args.blocks.now c.requires.rising c.args.at.block
     c.index-blocks-at.result (omega (arith, c.if-at-blocks.false))))
 
-ends : (c : In-Some)
+ends : (c : In_ok-count)
     → Ends c.args.key.now c.args.blocks.now c.args.at.block c.args.at.row
-    (c.args.at.row + c.in-Some.count)
+    (c.args.at.row + c.in_ok-count.count)
     (get_or c.args.blocks.now c.args.at.block c.index-blocks-at.result).rows
 ends c =
     let blocks = c.args.blocks.now in
     let key = c.args.key.now in
     let n = c.args.at.block in
     let row = c.args.at.row in
-    let count = c.in-Some.count in
+    let count = c.in_ok-count.count in
     let block = c.index-blocks-at.result in
     let rows = (get_or blocks n block).rows in
     let rest_is : c.rest_of-rest.result.now ≡ drop row rows =
     c.rest_of-rest.ensures ∙ ap (drop row) c.as_slice.ensures in
     let few : count < length (drop row rows) =
-    subst (λ xs. count < length xs) rest_is c.in-Some.ensures.inside in
+    subst (λ xs. count < length xs) rest_is c.in_ok-count.ensures.inside in
     let from : pairs_of (drop count (drop row rows)) ≡ rows_after key (pairs_of (drop row rows)) =
     subst (λ xs. pairs_of (drop count xs) ≡ rows_after key (pairs_of xs)) rest_is
-    c.in-Some.ensures.from in
+    c.in_ok-count.ensures.from in
     ends_within key blocks n row count (row + count) block (omega (arith, c.if-at-blocks.false))
     refl (omega (arith, few, length-drop row rows)) from
 
-pub returns-in-Some-clause-place : goal.returns-in-Some-clause-place
-returns-in-Some-clause-place c = (ends c.before).place
+pub returns-clause-place : goal.returns-clause-place
+returns-clause-place c = (ends c.before).place
 
-pub returns-in-Some-clause-rows : goal.returns-in-Some-clause-rows
-returns-in-Some-clause-rows c = (ends c.before).left
+pub returns-clause-rows : goal.returns-clause-rows
+returns-clause-rows c = (ends c.before).left

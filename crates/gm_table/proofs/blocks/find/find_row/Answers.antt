@@ -1,8 +1,7 @@
 use Rattle.std.proofs.Common.{◌≡◌, ◌∷◌, ◌<◌, ◌≤◌, true, false, suc, length, subst, sym, ap, ◌∙◌}
 use Rattle.std.proofs.Common.{get_or, arith}
-use Rattle.std.proofs.lemmas.Grind.{common_steps}
 use Rattle.std.specs.Ordering.{nat_cmp, is_eq}
-use Rattle.std.specs.Cmp.Lexicographic.{slice_cmp}
+use Rattle.std.specs.Cmp.Lexicographic.{slice_cmp, texts_ties}
 use Rattle.gm_table.specs.declared.row.Row.{Row}
 use Rattle.gm_table.specs.Blocks.{lists_of, pair_of, rows_at, rows_of, rows_until}
 use Rattle.gm_table.specs.Cursor.{rows_after, rows_below}
@@ -46,12 +45,14 @@ returns-then-at-rows-clause-gap c =
     (c.ahead-at.ensures.end c.index-blocks-at.result (omega (arith, c.if-at-blocks.false))
     (subst (λ xs. length xs ≤ row) c.as_slice-rows.ensures c.if-at-rows.true))
 
-pub returns-then-is_eq-clause-there : goal.returns-then-is_eq-clause-there
-returns-then-is_eq-clause-there c =
+pub returns-then-eq-clause-there : goal.returns-then-eq-clause-there
+returns-then-eq-clause-there c =
     let key = c.args.key.now in
     let row = c.ahead-at.result.row in
     let r = c.index-rows-at.result in
-    let same : is_eq (slice_cmp nat_cmp key r.key) ≡ true = grind (arith, common_steps) in
+    let same : is_eq (slice_cmp nat_cmp key r.key) ≡ true =
+    ap (λ (it : Row). is_eq (slice_cmp nat_cmp key it.key)) c.index-rows-at.is
+    ∙ sym (texts_ties key _) ∙ sym c.eq.ensures ∙ c.if-eq.true in
     has_row key c.args.blocks.now c.ahead-at.result.block row c.index-blocks-at.result r
     (omega (arith, c.if-at-blocks.false))
     (subst (λ xs. row < length xs) c.as_slice-rows.ensures c.if-at-rows.false)
@@ -74,7 +75,9 @@ returns-clause-gap c =
     c.ahead-at.ensures.from ∙ c.place_of.ensures.from ∙ ap (λ k. rows_after k all) asked in
     let r = c.index-rows-at.result in
     let d = c.index-blocks-at.result in
-    let other : is_eq (slice_cmp nat_cmp key r.key) ≡ false = grind (arith, common_steps) in
+    let other : is_eq (slice_cmp nat_cmp key r.key) ≡ false =
+    ap (λ (it : Row). is_eq (slice_cmp nat_cmp key it.key)) c.index-rows-at.is
+    ∙ sym (texts_ties key _) ∙ sym c.eq.ensures ∙ c.if-eq.false in
     let first = at_row c.args.blocks.now n row d r (omega (arith, c.if-at-blocks.false))
     (subst (λ xs. row < length xs) c.as_slice-rows.ensures c.if-at-rows.false) in
     let is : r ≡ get_or (get_or c.args.blocks.now n d).rows row r =
