@@ -78,7 +78,7 @@ impl TypeList {
         ensures ok { OnOk result (self.new ≡ self.old ++ of ∷ []) }
         ensures err { OnErr result (self.new ≡ self.old) }
     {
-        // Only the proof needs this read: it tells that the number is a u16.
+        // For the proof alone: a number is below 2^16.
         let _number = of.number();
         self.types.push(of)?;
         Ok(())
