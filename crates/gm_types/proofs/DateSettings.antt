@@ -26,8 +26,9 @@ pub date_unknown : (t : Specification) (name : List ℕ)
     → IsDateNamed t name None → IsDateSetting t None
 date_unknown t name given none = ap (is_met (is_date_name t)) (sym given) ∙ none
 
-pub no_date_named : (t : Specification) (name : List ℕ) 
+pub no_date_named : (t : Specification) (name : List ℕ)
     → None ≡ position (λ attribute. same_text attribute.name name) t.attributes
     → IsDateNamed t name None
 unfolding place_of_name
-no_date_named t name none = ap (λ place. is_date_kind (option_and_then (kind_at t) place)) (sym none)
+no_date_named t name none = ap (λ place. is_date_kind (option_and_then (kind_at t) place))
+    (sym none)

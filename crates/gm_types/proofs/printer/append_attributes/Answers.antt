@@ -5,7 +5,9 @@ use Rattle.gm_types.proofs.Printed.{one_more, attributes_text, attribute_printed
 use Rattle.gm_types.proofs.printer.append_attributes.Goals as goal
 
 pub loop-attribute_place-preserved : goal.loop-attribute_place-preserved
-loop-attribute_place-preserved c = let x = c.index-attributes-attribute_place.result in let i = c.loop-attribute_place.attribute_place in
+loop-attribute_place-preserved c =
+    let x = c.index-attributes-attribute_place.result in
+    let i = c.loop-attribute_place.attribute_place in
     one_more (attributes_text c.args.geometry) c.args.attributes.now i x
     (string_bytes c.args.out.now) (string_bytes c.loop-attribute_place.out)
     (string_bytes c.append_attribute.new.out)

@@ -8,4 +8,5 @@ invariant-loop-attribute_place l =
     string_bytes l.out
     ≡ string_bytes l.fn.out
     ++ separated 0
-    (map written_attribute (canonical_attributes l.geometry 0 (take l.attribute_place l.attributes)))
+    (map written_attribute (canonical_attributes l.geometry 0
+    (take l.attribute_place l.attributes)))

@@ -5,7 +5,9 @@ use Rattle.gm_types.proofs.Printed.{one_more, data_text, datum_printed}
 use Rattle.gm_types.proofs.printer.append_data.Goals as goal
 
 pub loop-datum_place-preserved : goal.loop-datum_place-preserved
-loop-datum_place-preserved c = let x = c.index-list-datum_place.result in let i = c.loop-datum_place.datum_place in
+loop-datum_place-preserved c =
+    let x = c.index-list-datum_place.result in
+    let i = c.loop-datum_place.datum_place in
     one_more data_text c.args.list.now i x
     (string_bytes c.args.out.now) (string_bytes c.loop-datum_place.out)
     (string_bytes c.append_datum.new.out)
