@@ -10,7 +10,7 @@ ghost use Rattle.gm_types.specs.Parts.{parts_of};
 ghost use Rattle.gm_types.specs.Reader as spec;
 ghost use Rattle.gm_types.specs.Words.{same_text};
 
-use crate::distinct::have_distinct_keys;
+use crate::distinct::are_distinct;
 use crate::halt::Halt;
 use crate::kind::kind_named;
 use crate::parts::{cut_once, trimmed};
@@ -149,7 +149,7 @@ fn attribute_with(
 ) -> Result<Attribute, Halt>
     ensures { Reads (spec.attribute_with name.now kind (Some options)) result }
 {
-    if !have_distinct_keys(alloc, options.as_slice())? {
+    if !are_distinct(alloc, options.as_slice())? {
         return Err(Halt::Broken);
     }
     let name = name_text(alloc, name)?;

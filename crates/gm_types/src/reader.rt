@@ -13,7 +13,7 @@ ghost use Rattle.gm_types.specs.Words.{are_distinct, is_name};
 
 use crate::attribute_reader::{is_geometry, read_attributes, read_stars};
 use crate::data_reader::read_data;
-use crate::distinct::{are_distinct_data, have_distinct_names};
+use crate::distinct::are_distinct;
 use crate::facts::{Facts, facts_of};
 use crate::halt::Halt;
 use crate::outline::Outline;
@@ -134,10 +134,10 @@ fn is_distinct(alloc: Global, outline: &Outline) -> Result<bool, NoMemory>
         ≡ (are_distinct (names_of (outlined outline.now))
         && are_distinct (datum_keys outline.now.user_data))) }
 {
-    if !have_distinct_names(alloc, outline.attributes.as_slice())? {
+    if !are_distinct(alloc, outline.attributes.as_slice())? {
         return Ok(false);
     }
-    are_distinct_data(alloc, outline.user_data.as_slice())
+    are_distinct(alloc, outline.user_data.as_slice())
 }
 
 fn limited(outline: Outline, facts: Facts) -> Result<FeatureType, SpecFault>
