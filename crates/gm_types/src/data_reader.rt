@@ -7,7 +7,7 @@ use crate::halt::Halt;
 use crate::parts::{cut_once, trimmed};
 use crate::words::{bare_text, key_text, quotable_text};
 use crate::{DataList, Datum};
-use gm_base::{Items, NoMemory, Text};
+use gm_base::{Items, Text};
 use std::alloc::Global;
 
 // What stands behind the first quote of a value.

@@ -8,7 +8,7 @@ ghost use Rattle.gm_types.specs.Words as spec;
 
 use crate::halt::Halt;
 use crate::parts::is_blank;
-use gm_base::{NoMemory, Text};
+use gm_base::Text;
 use std::alloc::Global;
 
 /// Whether a text is a word.
