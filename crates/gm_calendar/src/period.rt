@@ -1,8 +1,9 @@
-// Periods: the lengths of bins.
+// Periods: the lengths of bins, and what offsets in them count, as in GeoMesa's binned time.
 ghost use Rattle.std.specs.Prelude.{◌≡◌};
 ghost use Rattle.gm_calendar.specs.Period.{last_of, longest_of, unit_of};
 
-/// What a bin is: a day, a week from Thursday on, a month or a year, in UTC.
+/// What a bin is: a day, a week from Thursday on, a month or a year, in UTC. Bins are numbered from
+/// 1970-01-01 on, and offsets have the units of GeoMesa's binned time.
 #[derive(Clone, Copy, Debug, PartialEq, Eq)]
 pub enum Period {
     /// 24 hours, whose offsets count milliseconds.

@@ -23,6 +23,7 @@ pub fn print_instant(alloc: Global, at: Instant) -> Result<Text, NoMemory>
     ensures reads_back { IfOk result (λ text. instant_of text ≡ Some at) }
 {
     printed_instants_are_read();
+    // For the proof alone: an instant is of the years 0000 to 9999.
     let _ms = at.ms();
     let mut text = String::with_capacity(alloc, 24)?;
     append_instant(&mut text, at)?;

@@ -14,7 +14,8 @@ use jiff::civil::Date;
 /// The instant that a text spells: `YYYY-MM-DD`, then optionally `T` and `HH:MM`, `:SS`, `.` and
 /// one to nine digits, and behind a time `Z` or a sign and `HH:MM`. None where the text is of
 /// another form, where the calendar has no such date, or where the instant is outside the years
-/// 0000 to 9999.
+/// 0000 to 9999. The forms are those of ISO 8601's extended format, and with seconds and a zone
+/// RFC 3339's date-times; what gives no zone is in UTC.
 pub fn read_instant(text: &[u8]) -> Option<Instant>
     ensures { result ≡ instant_of text.now }
 {

@@ -22,7 +22,7 @@ use Rattle.gm_types.specs.Reader.{specification_of}
 use Rattle.gm_types.specs.Specification.{Specification, names_of}
 use Rattle.gm_types.specs.Words.{is_name, are_distinct}
 use Rattle.gm_types.proofs.Cuts.{some_none}
-use Rattle.gm_types.proofs.ReadParts.{value_taken}
+use Rattle.gm_types.proofs.ReadParts.{value_refused, value_taken}
 use Rattle.gm_types.proofs.Validity.{IsOutlineOf, outline_valid, valid_from}
 
 pub starred : (name : List ℕ) (number : ℕ) (stars : List Bool) (attributes : List Attribute)
@@ -72,6 +72,15 @@ pub outline_stopped : {B : Type 0} (wanted : Option Specification) (part : Optio
     → OutlineReads wanted (Err h)
 outline_stopped wanted part halt.Broken r f = f r
 outline_stopped wanted part halt.NoMemory r f = tt
+
+-- a name that is one is refused for memory alone
+pub named_memory : (name : List ℕ) (wanted : Option Specification) (h : Halt)
+    → is_name name ≡ true → Reads (value_if (is_name name) name) (Err h)
+    → OutlineReads wanted (Err h)
+named_memory name wanted halt.Broken named e =
+    let refused : is_name name ≡ false = value_refused (is_name name) name e in
+    absurd (cc)
+named_memory name wanted halt.NoMemory named e = tt
 
 pub outline_moved : (wanted other : Option Specification) (r : Result Outline Halt) → wanted ≡ other
     → OutlineReads wanted r → OutlineReads other r

@@ -1,13 +1,9 @@
 -- Texts that are seen already.
-use Rattle.std.specs.Prelude.{◌≡◌, ◌||◌, ℕ, Bool, not, List, map}
+use Rattle.std.specs.Prelude.{◌≡◌, ◌||◌, ℕ, Bool, not, List}
 use Rattle.std.specs.BTreeSet.{BTreeSet, contains}
 use Rattle.std.specs.Cmp.Lexicographic.{slice_cmp}
 use Rattle.std.specs.Ordering.{nat_cmp}
-use Rattle.gm_types.specs.declared.attribute.Attribute.{Attribute}
 use Rattle.gm_types.specs.Words.{same_text}
-
-abbrev pub attribute_names : List Attribute → List (List ℕ)
-attribute_names attributes = map (λ attribute. attribute.name) attributes
 
 abbrev pub has_text : BTreeSet (List ℕ) → List ℕ → Bool
 has_text seen text = contains (slice_cmp nat_cmp) seen text

@@ -10,7 +10,7 @@ ghost use Rattle.gm_types.specs.Parts.{parts_of};
 ghost use Rattle.gm_types.specs.Reader as spec;
 ghost use Rattle.gm_types.specs.Words.{same_text};
 
-use crate::distinct::have_distinct_keys;
+use crate::distinct::are_distinct;
 use crate::halt::Halt;
 use crate::kind::kind_named;
 use crate::parts::{cut_once, trimmed};
@@ -60,13 +60,9 @@ fn option_with(alloc: Global, kind: Kind, key: &[u8], value: &[u8]) -> Result<At
     if !may_have(kind, key, value) {
         return Err(Halt::Broken);
     }
-    match key_text(alloc, key) {
-        Err(halt) => Err(halt),
-        Ok(key) => match bare_text(alloc, value) {
-            Err(halt) => Err(halt),
-            Ok(value) => Ok(AttributeOption { key, value }),
-        },
-    }
+    let key = key_text(alloc, key)?;
+    let value = bare_text(alloc, value)?;
+    Ok(AttributeOption { key, value })
 }
 
 // `key=value`, as an attribute of a kind may have it.
@@ -74,22 +70,16 @@ fn option_with(alloc: Global, kind: Kind, key: &[u8], value: &[u8]) -> Result<At
 fn read_option(alloc: Global, kind: Kind, text: &[u8]) -> Result<AttributeOption, Halt>
     ensures { Reads (spec.option_of kind text.now) result }
 {
-    match cut_once(text, b'=') {
-        None => Err(Halt::Broken),
-        Some((key, value)) => option_with(alloc, kind, key, value),
-    }
+    let (key, value) = cut_once(text, b'=').ok_or(Halt::Broken)?;
+    option_with(alloc, kind, key, value)
 }
 
 fn add_option(alloc: Global, kind: Kind, options: &mut OptionList, text: &[u8]) -> Result<(), Halt>
     ensures { Adds (spec.option_of kind text.now) options.old options.new result }
 {
-    match read_option(alloc, kind, text) {
-        Err(halt) => Err(halt),
-        Ok(option) => match options.push(option) {
-            Err(NoMemory) => Err(Halt::NoMemory),
-            Ok(()) => Ok(()),
-        },
-    }
+    let option = read_option(alloc, kind, text)?;
+    options.push(option)?;
+    Ok(())
 }
 
 // Options with colons between them.
@@ -99,20 +89,12 @@ fn read_options(alloc: Global, kind: Kind, text: &[u8]) -> Result<OptionList, Ha
     let mut options = Items::new(alloc);
     let mut rest = text;
     'parts: loop {
-        match cut_once(rest, b':') {
-            None => {
-                return match add_option(alloc, kind, &mut options, rest) {
-                    Err(halt) => Err(halt),
-                    Ok(()) => Ok(options),
-                };
-            }
-            Some((part, behind)) => {
-                if let Err(halt) = add_option(alloc, kind, &mut options, part) {
-                    return Err(halt);
-                }
-                rest = behind;
-            }
-        }
+        let Some((part, behind)) = cut_once(rest, b':') else {
+            add_option(alloc, kind, &mut options, rest)?;
+            return Ok(options);
+        };
+        add_option(alloc, kind, &mut options, part)?;
+        rest = behind;
     }
 }
 
@@ -167,25 +149,19 @@ fn attribute_with(
 ) -> Result<Attribute, Halt>
     ensures { Reads (spec.attribute_with name.now kind (Some options)) result }
 {
-    match have_distinct_keys(alloc, options.as_slice()) {
-        Err(NoMemory) => return Err(Halt::NoMemory),
-        Ok(false) => return Err(Halt::Broken),
-        Ok(true) => {}
+    if !are_distinct(alloc, options.as_slice())? {
+        return Err(Halt::Broken);
     }
-    match name_text(alloc, name) {
-        Err(halt) => Err(halt),
-        Ok(name) => Ok(attribute_from(name, kind, options)),
-    }
+    let name = name_text(alloc, name)?;
+    Ok(attribute_from(name, kind, options))
 }
 
 // An attribute without options.
 fn plain_attribute(alloc: Global, name: &[u8], kind: &[u8]) -> Result<Attribute, Halt>
     ensures { Reads (spec.attribute_typed name.now (spec.kind_named kind.now) None) result }
 {
-    match kind_named(kind) {
-        None => Err(Halt::Broken),
-        Some(kind) => attribute_with(alloc, name, kind, Items::new(alloc)),
-    }
+    let kind = kind_named(kind).ok_or(Halt::Broken)?;
+    attribute_with(alloc, name, kind, Items::new(alloc))
 }
 
 // An attribute with options.
@@ -198,13 +174,9 @@ fn full_attribute(
     ensures { Reads (spec.attribute_typed name.now (spec.kind_named kind.now)
         (Some options.now)) result }
 {
-    match kind_named(kind) {
-        None => Err(Halt::Broken),
-        Some(kind) => match read_options(alloc, kind, options) {
-            Err(halt) => Err(halt),
-            Ok(options) => attribute_with(alloc, name, kind, options),
-        },
-    }
+    let kind = kind_named(kind).ok_or(Halt::Broken)?;
+    let options = read_options(alloc, kind, options)?;
+    attribute_with(alloc, name, kind, options)
 }
 
 fn typed_attribute(alloc: Global, name: &[u8], text: &[u8]) -> Result<Attribute, Halt>
@@ -241,22 +213,16 @@ fn read_attribute(alloc: Global, part: &[u8]) -> Result<Attribute, Halt>
     ensures { Reads (spec.attribute_of part.now) result }
 {
     let text = without_star(trimmed(part));
-    match cut_once(text, b':') {
-        None => Err(Halt::Broken),
-        Some((name, behind)) => typed_attribute(alloc, name, behind),
-    }
+    let (name, behind) = cut_once(text, b':').ok_or(Halt::Broken)?;
+    typed_attribute(alloc, name, behind)
 }
 
 fn add_attribute(alloc: Global, attributes: &mut AttributeList, part: &[u8]) -> Result<(), Halt>
     ensures { Adds (spec.attribute_of part.now) attributes.old attributes.new result }
 {
-    match read_attribute(alloc, part) {
-        Err(halt) => Err(halt),
-        Ok(attribute) => match attributes.push(attribute) {
-            Err(NoMemory) => Err(Halt::NoMemory),
-            Ok(()) => Ok(()),
-        },
-    }
+    let attribute = read_attribute(alloc, part)?;
+    attributes.push(attribute)?;
+    Ok(())
 }
 
 /// The attributes of a specification, with commas between them.
@@ -266,20 +232,12 @@ pub(crate) fn read_attributes(alloc: Global, text: &[u8]) -> Result<AttributeLis
     let mut attributes = Items::new(alloc);
     let mut rest = text;
     'parts: loop {
-        match cut_once(rest, b',') {
-            None => {
-                return match add_attribute(alloc, &mut attributes, rest) {
-                    Err(halt) => Err(halt),
-                    Ok(()) => Ok(attributes),
-                };
-            }
-            Some((part, behind)) => {
-                if let Err(halt) = add_attribute(alloc, &mut attributes, part) {
-                    return Err(halt);
-                }
-                rest = behind;
-            }
-        }
+        let Some((part, behind)) = cut_once(rest, b',') else {
+            add_attribute(alloc, &mut attributes, rest)?;
+            return Ok(attributes);
+        };
+        add_attribute(alloc, &mut attributes, part)?;
+        rest = behind;
     }
 }
 
@@ -297,15 +255,11 @@ pub(crate) fn read_stars(alloc: Global, text: &[u8]) -> Result<Vec<bool>, NoMemo
     let mut stars = Vec::new(alloc);
     let mut rest = text;
     'parts: loop {
-        match cut_once(rest, b',') {
-            None => {
-                stars.push(is_starred(rest))?;
-                return Ok(stars);
-            }
-            Some((part, behind)) => {
-                stars.push(is_starred(part))?;
-                rest = behind;
-            }
-        }
+        let Some((part, behind)) = cut_once(rest, b',') else {
+            stars.push(is_starred(rest))?;
+            return Ok(stars);
+        };
+        stars.push(is_starred(part))?;
+        rest = behind;
     }
 }

@@ -7,7 +7,7 @@ use crate::halt::Halt;
 use crate::parts::{cut_once, trimmed};
 use crate::words::{bare_text, key_text, quotable_text};
 use crate::{DataList, Datum};
-use gm_base::{Items, NoMemory, Text};
+use gm_base::{Items, Text};
 use std::alloc::Global;
 
 // What stands behind the first quote of a value.
@@ -29,27 +29,19 @@ fn quoted_text(alloc: Global, rest: &[u8]) -> Result<Text, Halt>
 fn read_value(alloc: Global, text: &[u8]) -> Result<Text, Halt>
     ensures { Reads (spec.value_of text.now) result }
 {
-    match text.split_first() {
-        None => Err(Halt::Broken),
-        Some((first, rest)) => {
-            if *first == b'\'' {
-                return quoted_text(alloc, rest);
-            }
-            bare_text(alloc, text)
-        }
+    let (first, rest) = text.split_first().ok_or(Halt::Broken)?;
+    if *first == b'\'' {
+        return quoted_text(alloc, rest);
     }
+    bare_text(alloc, text)
 }
 
 fn datum_with(alloc: Global, key: &[u8], value: &[u8]) -> Result<Datum, Halt>
     ensures { Reads (spec.datum_with key.now (spec.value_of value.now)) result }
 {
-    match read_value(alloc, value) {
-        Err(halt) => Err(halt),
-        Ok(value) => match key_text(alloc, key) {
-            Err(halt) => Err(halt),
-            Ok(key) => Ok(Datum { key, value }),
-        },
-    }
+    let value = read_value(alloc, value)?;
+    let key = key_text(alloc, key)?;
+    Ok(Datum { key, value })
 }
 
 // A user datum between two commas.
@@ -57,22 +49,16 @@ fn datum_with(alloc: Global, key: &[u8], value: &[u8]) -> Result<Datum, Halt>
 fn read_datum(alloc: Global, part: &[u8]) -> Result<Datum, Halt>
     ensures { Reads (spec.datum_of part.now) result }
 {
-    match cut_once(trimmed(part), b'=') {
-        None => Err(Halt::Broken),
-        Some((key, value)) => datum_with(alloc, key, value),
-    }
+    let (key, value) = cut_once(trimmed(part), b'=').ok_or(Halt::Broken)?;
+    datum_with(alloc, key, value)
 }
 
 fn add_datum(alloc: Global, list: &mut DataList, part: &[u8]) -> Result<(), Halt>
     ensures { Adds (spec.datum_of part.now) list.old list.new result }
 {
-    match read_datum(alloc, part) {
-        Err(halt) => Err(halt),
-        Ok(datum) => match list.push(datum) {
-            Err(NoMemory) => Err(Halt::NoMemory),
-            Ok(()) => Ok(()),
-        },
-    }
+    let datum = read_datum(alloc, part)?;
+    list.push(datum)?;
+    Ok(())
 }
 
 /// The user data of a specification, with commas between them.
@@ -82,19 +68,11 @@ pub(crate) fn read_data(alloc: Global, text: &[u8]) -> Result<DataList, Halt>
     let mut list = Items::new(alloc);
     let mut rest = text;
     'parts: loop {
-        match cut_once(rest, b',') {
-            None => {
-                return match add_datum(alloc, &mut list, rest) {
-                    Err(halt) => Err(halt),
-                    Ok(()) => Ok(list),
-                };
-            }
-            Some((part, behind)) => {
-                if let Err(halt) = add_datum(alloc, &mut list, part) {
-                    return Err(halt);
-                }
-                rest = behind;
-            }
-        }
+        let Some((part, behind)) = cut_once(rest, b',') else {
+            add_datum(alloc, &mut list, rest)?;
+            return Ok(list);
+        };
+        add_datum(alloc, &mut list, part)?;
+        rest = behind;
     }
 }

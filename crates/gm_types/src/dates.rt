@@ -57,26 +57,20 @@ fn first_date_of(outline: &Outline) -> Option<usize>
 fn date_named(outline: &Outline, name: &[u8]) -> Option<usize>
     ensures { IsDateNamed (outlined outline.now) name.now result }
 {
-    match place_named(outline.attributes.as_slice(), name) {
-        Some(place) => {
-            if is_date_at(outline.attributes.as_slice(), place) {
-                return Some(place);
-            }
-            None
-        }
-        None => None,
+    let place = place_named(outline.attributes.as_slice(), name)?;
+    if is_date_at(outline.attributes.as_slice(), place) {
+        return Some(place);
     }
+    None
 }
 
 /// The place of the default date, if there is one: None where `geomesa.index.dtg` names no Date.
 pub(crate) fn default_date(outline: &Outline) -> Option<Option<usize>>
     ensures { IsDateSetting (outlined outline.now) result }
 {
-    match setting(outline, b"geomesa.index.dtg") {
-        None => Some(first_date_of(outline)),
-        Some(name) => match date_named(outline, name) {
-            Some(place) => Some(Some(place)),
-            None => None,
-        },
-    }
+    let Some(name) = setting(outline, b"geomesa.index.dtg") else {
+        return Some(first_date_of(outline));
+    };
+    let place = date_named(outline, name)?;
+    Some(Some(place))
 }

@@ -1,11 +1,9 @@
 // Lists of texts in which none stands twice. They are compared in a sorted set.
-ghost use Rattle.std.specs.Prelude.{◌≡◌, ◌||◌, not, ℕ, List, IfOk};
+ghost use Rattle.std.specs.Prelude.{◌≡◌, ◌||◌, not, map, ℕ, List, IfOk};
 ghost use Rattle.std.specs.BTreeSet.{contains};
 ghost use Rattle.std.specs.Cmp.Lexicographic.{slice_cmp};
 ghost use Rattle.std.specs.Ordering.{nat_cmp};
-ghost use Rattle.gm_types.specs.Attribute.{option_keys};
-ghost use Rattle.gm_types.specs.Datum.{datum_keys};
-ghost use Rattle.gm_types.specs.Distinct.{attribute_names, has_text, Notes};
+ghost use Rattle.gm_types.specs.Distinct.{has_text, Notes};
 ghost use Rattle.gm_types.specs.Words.{are_distinct, same_text};
 
 use crate::{Attribute, AttributeOption, Datum};
@@ -21,42 +19,46 @@ fn note(alloc: Global, seen: &mut BTreeSet<Bytes>, text: &[u8]) -> Result<bool, 
     Ok(seen.insert(text)?)
 }
 
-/// Whether the keys of options stand once each.
-pub(crate) fn have_distinct_keys(
-    alloc: Global,
-    options: &[AttributeOption],
-) -> Result<bool, NoMemory>
-    ensures { IfOk result (λ distinct. distinct ≡ are_distinct (option_keys options.now)) }
-{
-    let mut seen = BTreeSet::new(alloc);
-    for option in options {
-        if !note(alloc, &mut seen, option.key.as_bytes())? {
-            return Ok(false);
-        }
-    }
-    Ok(true)
+/// What is told from the others of its list by a name or a key.
+pub(crate) trait Keyed {
+    /// The name or the key.
+    ghost key_of: { Self → List ℕ };
+
+    fn key_bytes(&self) -> &[u8]
+        ensures { result.now ≡ key_of self.now };
 }
 
-/// Whether the names of attributes stand once each.
-pub(crate) fn have_distinct_names(alloc: Global, attributes: &[Attribute]) -> Result<bool, NoMemory>
-    ensures { IfOk result (λ distinct. distinct ≡ are_distinct (attribute_names attributes.now)) }
-{
-    let mut seen = BTreeSet::new(alloc);
-    for attribute in attributes {
-        if !note(alloc, &mut seen, attribute.name.as_bytes())? {
-            return Ok(false);
-        }
+impl Keyed for AttributeOption {
+    ghost key_of = { λ option. option.key };
+
+    fn key_bytes(&self) -> &[u8] {
+        self.key.as_bytes()
     }
-    Ok(true)
 }
 
-/// Whether the keys of user data stand once each.
-pub(crate) fn are_distinct_data(alloc: Global, given: &[Datum]) -> Result<bool, NoMemory>
-    ensures { IfOk result (λ distinct. distinct ≡ are_distinct (datum_keys given.now)) }
+impl Keyed for Attribute {
+    ghost key_of = { λ attribute. attribute.name };
+
+    fn key_bytes(&self) -> &[u8] {
+        self.name.as_bytes()
+    }
+}
+
+impl Keyed for Datum {
+    ghost key_of = { λ datum. datum.key };
+
+    fn key_bytes(&self) -> &[u8] {
+        self.key.as_bytes()
+    }
+}
+
+/// Whether the names or keys of a list stand once each.
+pub(crate) fn are_distinct<T: Keyed>(alloc: Global, items: &[T]) -> Result<bool, NoMemory>
+    ensures { IfOk result (λ distinct. distinct ≡ are_distinct (map T.key_of items.now)) }
 {
     let mut seen = BTreeSet::new(alloc);
-    for datum in given {
-        if !note(alloc, &mut seen, datum.key.as_bytes())? {
+    for item in items {
+        if !note(alloc, &mut seen, item.key_bytes())? {
             return Ok(false);
         }
     }

@@ -48,54 +48,38 @@ pub(crate) struct Facts {
 fn times_of(outline: &Outline) -> Option<Times>
     ensures { spec.TellsTimes (outlined outline.now) result }
 {
-    match period(outline) {
-        None => None,
-        Some(period) => match default_date(outline) {
-            None => None,
-            Some(date) => Some(Times { date, period }),
-        },
-    }
+    let period = period(outline)?;
+    let date = default_date(outline)?;
+    Some(Times { date, period })
 }
 
 fn widths_of(outline: &Outline) -> Option<(u32, u32)>
     ensures { spec.TellsWidths (outlined outline.now) result }
 {
-    match z2_bits(outline) {
-        None => None,
-        Some(two) => match z3_bits(outline) {
-            None => None,
-            Some(three) => Some((two, three)),
-        },
-    }
+    let two = z2_bits(outline)?;
+    let three = z3_bits(outline)?;
+    Some((two, three))
 }
 
 fn trees_of(outline: &Outline) -> Option<(u8, u32)>
     ensures { spec.TellsTrees (outlined outline.now) result }
 {
-    match shards(outline) {
-        None => None,
-        Some(shards) => match precision(outline) {
-            None => None,
-            Some(precision) => Some((shards, precision)),
-        },
-    }
+    let shards = shards(outline)?;
+    let precision = precision(outline)?;
+    Some((shards, precision))
 }
 
 fn sizes_of(outline: &Outline) -> Option<Sizes>
     ensures { spec.TellsSizes (outlined outline.now) result }
 {
-    match trees_of(outline) {
-        None => None,
-        Some((shards, precision)) => match widths_of(outline) {
-            None => None,
-            Some((z2_bits, z3_bits)) => Some(Sizes {
-                shards,
-                precision,
-                z2_bits,
-                z3_bits,
-            }),
-        },
-    }
+    let (shards, precision) = trees_of(outline)?;
+    let (z2_bits, z3_bits) = widths_of(outline)?;
+    Some(Sizes {
+        shards,
+        precision,
+        z2_bits,
+        z3_bits,
+    })
 }
 
 // Whether an index that fits, or not, is enabled.
@@ -128,18 +112,12 @@ fn enabled_of(outline: &Outline, has_date: bool) -> Option<Enabled>
 pub(crate) fn facts_of(outline: &Outline) -> Option<Facts>
     ensures { spec.TellsFacts (outlined outline.now) result }
 {
-    match times_of(outline) {
-        None => None,
-        Some(times) => match sizes_of(outline) {
-            None => None,
-            Some(sizes) => match enabled_of(outline, times.date.is_some()) {
-                None => None,
-                Some(enabled) => Some(Facts {
-                    times,
-                    sizes,
-                    enabled,
-                }),
-            },
-        },
-    }
+    let times = times_of(outline)?;
+    let sizes = sizes_of(outline)?;
+    let enabled = enabled_of(outline, times.date.is_some())?;
+    Some(Facts {
+        times,
+        sizes,
+        enabled,
+    })
 }

@@ -99,10 +99,8 @@ impl FeatureType {
     pub fn attribute_named(&self, name: &[u8]) -> Option<u16>
         ensures { result ≡ place_of_name self.now name.now }
     {
-        match place_named(self.outline.attributes.as_slice(), name) {
-            Some(place) => Some(place as u16),
-            None => None,
-        }
+        let place = place_named(self.outline.attributes.as_slice(), name)?;
+        Some(place as u16)
     }
 
     /// The number of the default geometry: of the one with `*`, else of the first.
@@ -110,10 +108,8 @@ impl FeatureType {
         ensures value { result ≡ default_geometry_of self.now }
         ensures kind { IfSome result (IsGeometryAt self.now) }
     {
-        match self.outline.geometry {
-            Some(place) => Some(place as u16),
-            None => None,
-        }
+        let place = self.outline.geometry?;
+        Some(place as u16)
     }
 
     /// The number of the default date.
@@ -121,10 +117,8 @@ impl FeatureType {
         ensures value { result ≡ default_date_of self.now }
         ensures kind { IfSome result (IsDateAt self.now) }
     {
-        match self.facts.times.date {
-            Some(place) => Some(place as u16),
-            None => None,
-        }
+        let place = self.facts.times.date?;
+        Some(place as u16)
     }
 
     pub fn period(&self) -> Period
@@ -133,6 +127,7 @@ impl FeatureType {
         self.facts.times.period
     }
 
+    /// The number of shards of the indexes over space: 1 to 127.
     pub fn shards(&self) -> u8
         ensures value { result ≡ shards_of self.now }
         ensures some { 1 ≤ result }
@@ -174,15 +169,11 @@ impl FeatureType {
         ensures none { IfNone result ((kind : IndexKind) → has_index self.now kind ≡ true
             → index_name self.now kind ≡ name.now → ⊥) }
     {
-        match self.index_meant(name) {
-            Some(kind) => {
-                if self.has(kind) {
-                    return Some(kind);
-                }
-                None
-            }
-            None => None,
+        let kind = self.index_meant(name)?;
+        if self.has(kind) {
+            return Some(kind);
         }
+        None
     }
 
     fn index_meant(&self, name: &[u8]) -> Option<IndexKind>

@@ -30,22 +30,17 @@ fn shape_at(attributes: &[Attribute], place: usize) -> Option<GeoKind>
     ensures { result ≡ option_and_then kinds.shape_of
         (slice_get (map (λ attribute. attribute.kind) attributes.now) place) }
 {
-    match attributes.get(place) {
-        Some(attribute) => match attribute.kind {
-            Kind::Geo(shape) => Some(shape),
-            _ => None,
-        },
-        None => None,
+    match attributes.get(place)?.kind {
+        Kind::Geo(shape) => Some(shape),
+        _ => None,
     }
 }
 
 fn default_shape(outline: &Outline) -> Option<GeoKind>
     ensures { result ≡ default_shape_of (outlined outline.now) }
 {
-    match outline.geometry {
-        Some(place) => shape_at(outline.attributes.as_slice(), place),
-        None => None,
-    }
+    let place = outline.geometry?;
+    shape_at(outline.attributes.as_slice(), place)
 }
 
 fn is_point(shape: Option<GeoKind>) -> bool

@@ -76,8 +76,6 @@ pub(crate) fn kind_named(text: &[u8]) -> Option<Kind>
     if is_word(text, b"Date") {
         return Some(Kind::Date);
     }
-    match shape_named(text) {
-        Some(shape) => Some(Kind::Geo(shape)),
-        None => None,
-    }
+    let shape = shape_named(text)?;
+    Some(Kind::Geo(shape))
 }

@@ -14,6 +14,7 @@ pub fn types_hold_together(of: &FeatureType)
     ensures together { HoldsTogether of.now }
     ensures law { (t : Specification) → IsType t → HoldsTogether t }
 {
+    // For the proof alone: it is a type that breaks no rule.
     let _attributes = of.attributes();
 }
 

@@ -19,10 +19,8 @@ fn attribute_index(attributes: &[Attribute], name: &[u8]) -> Option<IndexKind>
     if !is_word(front, b"attr:") {
         return None;
     }
-    match place_named(attributes, rest) {
-        Some(place) => Some(IndexKind::Attr(place as u16)),
-        None => None,
-    }
+    let place = place_named(attributes, rest)?;
+    Some(IndexKind::Attr(place as u16))
 }
 
 /// The index that a name means, where the type has it.

@@ -10,9 +10,9 @@ fn part_len(text: &[u8], mark: u8) -> usize
     ensures within { result ≤ length text.now }
 {
     let mut quoted = false;
-    for (place, byte) in text.iter().enumerate() {
+    for (byte_place, byte) in text.iter().enumerate() {
         if !quoted && *byte == mark {
-            return place;
+            return byte_place;
         }
         if *byte == b'\'' {
             quoted = !quoted;
@@ -56,9 +56,9 @@ fn blank_len(text: &[u8]) -> usize
     ensures value { result ≡ prefix_len is_blank text.now }
     ensures within { result ≤ length text.now }
 {
-    for (place, byte) in text.iter().enumerate() {
+    for (byte_place, byte) in text.iter().enumerate() {
         if !is_blank(*byte) {
-            return place;
+            return byte_place;
         }
     }
     text.len()

@@ -108,9 +108,9 @@ fn append_attributes(
         ++ spec.separated 0 (map spec.written_attribute
         (spec.canonical_attributes geometry 0 attributes.now))) }
 {
-    for (place, attribute) in attributes.iter().enumerate() {
-        append_comma(out, place)?;
-        append_attribute(out, is_place(geometry, place), attribute)?;
+    for (attribute_place, attribute) in attributes.iter().enumerate() {
+        append_comma(out, attribute_place)?;
+        append_attribute(out, is_place(geometry, attribute_place), attribute)?;
     }
     Ok(())
 }
@@ -142,8 +142,8 @@ fn append_data(out: &mut String, list: &[Datum]) -> Result<(), NoMemory>
     ensures { OnOk result (string_bytes out.new ≡ string_bytes out.old
         ++ spec.separated 0 (map spec.written_datum (map spec.canonical_datum list.now))) }
 {
-    for (place, datum) in list.iter().enumerate() {
-        append_comma(out, place)?;
+    for (datum_place, datum) in list.iter().enumerate() {
+        append_comma(out, datum_place)?;
         append_datum(out, datum)?;
     }
     Ok(())

@@ -13,7 +13,7 @@ ghost use Rattle.gm_types.specs.Words.{are_distinct, is_name};
 
 use crate::attribute_reader::{is_geometry, read_attributes, read_stars};
 use crate::data_reader::read_data;
-use crate::distinct::{are_distinct_data, have_distinct_names};
+use crate::distinct::are_distinct;
 use crate::facts::{Facts, facts_of};
 use crate::halt::Halt;
 use crate::outline::Outline;
@@ -90,16 +90,14 @@ fn starred_outline(
         return Err(Halt::Broken);
     }
     let geometry = geometry_place(stars, attributes.as_slice());
-    match name_text(alloc, name) {
-        Err(_) => Err(Halt::NoMemory),
-        Ok(name) => Ok(Outline {
-            name,
-            number,
-            attributes,
-            user_data,
-            geometry,
-        }),
-    }
+    let name = name_text(alloc, name)?;
+    Ok(Outline {
+        name,
+        number,
+        attributes,
+        user_data,
+        geometry,
+    })
 }
 
 fn outline_with(
@@ -113,15 +111,9 @@ fn outline_with(
     ensures { OutlineReads (spec.outline_with name.now number (spec.stars_of text.now)
         (spec.attributes_of text.now) (Some user_data)) result }
 {
-    match read_attributes(alloc, text) {
-        Err(halt) => Err(halt),
-        Ok(attributes) => match read_stars(alloc, text) {
-            Err(NoMemory) => Err(Halt::NoMemory),
-            Ok(stars) => {
-                starred_outline(alloc, name, number, stars.as_slice(), attributes, user_data)
-            }
-        },
-    }
+    let attributes = read_attributes(alloc, text)?;
+    let stars = read_stars(alloc, text)?;
+    starred_outline(alloc, name, number, stars.as_slice(), attributes, user_data)
 }
 
 #[tactic(auto, unfolding(crate::specs::Reader::outline_of))]
@@ -129,13 +121,11 @@ fn read_outline(alloc: Global, name: &[u8], number: u16, text: &[u8]) -> Result<
     requires { is_name name.now ≡ true }
     ensures { OutlineReads (spec.outline_of name.now number text.now) result }
 {
-    match cut_once(text, b';') {
-        None => outline_with(alloc, name, number, text, Items::new(alloc)),
-        Some((attributes, behind)) => match read_data(alloc, behind) {
-            Err(halt) => Err(halt),
-            Ok(list) => outline_with(alloc, name, number, attributes, list),
-        },
-    }
+    let Some((attributes, behind)) = cut_once(text, b';') else {
+        return outline_with(alloc, name, number, text, Items::new(alloc));
+    };
+    let user_data = read_data(alloc, behind)?;
+    outline_with(alloc, name, number, attributes, user_data)
 }
 
 // Whether the names of attributes and the keys of user data stand once each.
@@ -144,10 +134,10 @@ fn is_distinct(alloc: Global, outline: &Outline) -> Result<bool, NoMemory>
         ≡ (are_distinct (names_of (outlined outline.now))
         && are_distinct (datum_keys outline.now.user_data))) }
 {
-    if !have_distinct_names(alloc, outline.attributes.as_slice())? {
+    if !are_distinct(alloc, outline.attributes.as_slice())? {
         return Ok(false);
     }
-    are_distinct_data(alloc, outline.user_data.as_slice())
+    are_distinct(alloc, outline.user_data.as_slice())
 }
 
 fn limited(outline: Outline, facts: Facts) -> Result<FeatureType, SpecFault>
@@ -170,13 +160,12 @@ fn checked(alloc: Global, outline: Outline) -> Result<FeatureType, SpecFault>
     ensures same { IfOk result (λ t. t ≡ outlined outline) }
 {
     match is_distinct(alloc, &outline) {
-        Err(NoMemory) => Err(SpecFault::NoMemory),
-        Ok(false) => Err(SpecFault::Spec),
-        Ok(true) => match facts_of(&outline) {
-            None => Err(SpecFault::Spec),
-            Some(facts) => limited(outline, facts),
-        },
+        Err(NoMemory) => return Err(SpecFault::NoMemory),
+        Ok(false) => return Err(SpecFault::Spec),
+        Ok(true) => {}
     }
+    let facts = facts_of(&outline).ok_or(SpecFault::Spec)?;
+    limited(outline, facts)
 }
 
 /// The type that a specification gives to a name and a number. `docs/SPECIFICATIONS.md` has the

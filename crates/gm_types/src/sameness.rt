@@ -29,6 +29,7 @@ fn are_alike(one: &FeatureType, two: &FeatureType, text: &Text, other: &Text) ->
 pub fn is_same(alloc: Global, one: &FeatureType, two: &FeatureType) -> Result<bool, NoMemory>
     ensures { IfOk result (λ same. IsTrue same ↔ (one.now ≡ two.now)) }
 {
+    // For the proof alone: both are types that break no rule.
     let _one = one.attributes();
     let _two = two.attributes();
     let text = print_spec(alloc, one)?;

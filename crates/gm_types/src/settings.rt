@@ -26,10 +26,8 @@ fn datum_named<'a>(list: &'a [Datum], key: &[u8]) -> Option<&'a Datum>
 pub(crate) fn setting<'a>(outline: &'a Outline, key: &[u8]) -> Option<&'a [u8]>
     ensures { option_copied result ≡ spec.setting_of (outlined outline.now) key.now }
 {
-    match datum_named(outline.user_data.as_slice(), key) {
-        Some(datum) => Some(datum.value.as_bytes()),
-        None => None,
-    }
+    let datum = datum_named(outline.user_data.as_slice(), key)?;
+    Some(datum.value.as_bytes())
 }
 
 fn begins_number(text: &[u8]) -> bool
@@ -47,19 +45,22 @@ fn are_digits(text: &[u8]) -> bool
     text.iter().all(|byte| byte.is_ascii_digit())
 }
 
-// The value of digits, or 1000 where it is more.
+// No number that counts is more: it stands for each that is.
+const NUMBER_CAP: u32 = 1_000;
+
+// The value of digits, or the cap where it is more.
 fn digits_value(text: &[u8]) -> u32
     ensures { result ≡ min (fold next_digit 0 text.now) number_cap }
 {
     let mut value = 0u32;
     for byte in text {
         let digit = u32::from(byte.saturating_sub(b'0'));
-        value = (value * 10 + digit).min(1000);
+        value = (value * 10 + digit).min(NUMBER_CAP);
     }
     value
 }
 
-// The number that a text writes, or 1000 where it is more.
+// The number that a text writes, or the cap where it is more.
 fn number(text: &[u8]) -> Option<u32>
     ensures { result ≡ capped (spec.number_of text.now) }
 {
@@ -72,57 +73,41 @@ fn number(text: &[u8]) -> Option<u32>
 fn shard_count(text: &[u8]) -> Option<u8>
     ensures { result ≡ spec.number_that spec.is_shard_count text.now }
 {
-    match number(text) {
-        Some(n) => {
-            if 1 <= n && n <= 127 {
-                return Some(n as u8);
-            }
-            None
-        }
-        None => None,
+    let count = number(text)?;
+    if (1..=127).contains(&count) {
+        return Some(count as u8);
     }
+    None
 }
 
 fn levels(text: &[u8]) -> Option<u32>
     ensures { result ≡ spec.number_that spec.is_precision text.now }
 {
-    match number(text) {
-        Some(n) => {
-            if n == 4 || n == 8 || n == 12 || n == 16 {
-                return Some(n);
-            }
-            None
-        }
-        None => None,
+    let levels = number(text)?;
+    if matches!(levels, 4 | 8 | 12 | 16) {
+        return Some(levels);
     }
+    None
 }
 
 fn z2_width(text: &[u8]) -> Option<u32>
     ensures { result ≡ spec.number_that spec.is_z2_width text.now }
 {
-    match number(text) {
-        Some(n) => {
-            if n == 8 || n == 16 || n == 24 || n == 31 {
-                return Some(n);
-            }
-            None
-        }
-        None => None,
+    let width = number(text)?;
+    if matches!(width, 8 | 16 | 24 | 31) {
+        return Some(width);
     }
+    None
 }
 
 fn z3_width(text: &[u8]) -> Option<u32>
     ensures { result ≡ spec.number_that spec.is_z3_width text.now }
 {
-    match number(text) {
-        Some(n) => {
-            if n == 8 || n == 12 || n == 16 || n == 21 {
-                return Some(n);
-            }
-            None
-        }
-        None => None,
+    let width = number(text)?;
+    if matches!(width, 8 | 12 | 16 | 21) {
+        return Some(width);
     }
+    None
 }
 
 #[tactic(auto, unfolding(crate::specs::Specification::period_from))]

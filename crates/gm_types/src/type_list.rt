@@ -60,10 +60,8 @@ impl TypeList {
     pub fn number_of(&self, name: &[u8]) -> Option<u16>
         ensures { result ≡ number_of_name self.now name.now }
     {
-        match place_of(self.types.as_slice(), name) {
-            Some(place) => Some(place as u16),
-            None => None,
-        }
+        let place = place_of(self.types.as_slice(), name)?;
+        Some(place as u16)
     }
 
     /// The type with a number.
@@ -80,6 +78,7 @@ impl TypeList {
         ensures ok { OnOk result (self.new ≡ self.old ++ of ∷ []) }
         ensures err { OnErr result (self.new ≡ self.old) }
     {
+        // For the proof alone: a number is below 2^16.
         let _number = of.number();
         self.types.push(of)?;
         Ok(())

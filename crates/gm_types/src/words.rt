@@ -8,7 +8,7 @@ ghost use Rattle.gm_types.specs.Words as spec;
 
 use crate::halt::Halt;
 use crate::parts::is_blank;
-use gm_base::{NoMemory, Text};
+use gm_base::Text;
 use std::alloc::Global;
 
 /// Whether a text is a word.
@@ -87,15 +87,13 @@ pub fn is_name(name: &[u8]) -> bool
 fn is_key(bytes: &[u8]) -> bool
     ensures { result ≡ spec.is_key bytes.now }
 {
-    let some = !bytes.is_empty();
-    some && are_key_bytes(bytes)
+    !bytes.is_empty() && are_key_bytes(bytes)
 }
 
 pub(crate) fn is_bare_form(bytes: &[u8]) -> bool
     ensures { result ≡ spec.is_bare_form bytes.now }
 {
-    let some = !bytes.is_empty();
-    some && are_bare_bytes(bytes)
+    !bytes.is_empty() && are_bare_bytes(bytes)
 }
 
 fn has_no_quote(bytes: &[u8]) -> bool
@@ -111,13 +109,10 @@ fn text_if(alloc: Global, formed: bool, bytes: &[u8]) -> Result<Text, Halt>
     if !formed {
         return Err(Halt::Broken);
     }
-    match str::from_utf8(bytes) {
-        Err(_) => Err(Halt::Broken),
-        Ok(valid) => match Text::from_str(alloc, valid) {
-            Ok(text) => Ok(text),
-            Err(NoMemory) => Err(Halt::NoMemory),
-        },
-    }
+    let Ok(valid) = str::from_utf8(bytes) else {
+        return Err(Halt::Broken);
+    };
+    Ok(Text::from_str(alloc, valid)?)
 }
 
 /// A name, of at most 64 bytes.

@@ -3,6 +3,6 @@ use Rattle.std.specs.List.{prefix_len}
 use Rattle.gm_types.specs.Words.{is_blank}
 use Rattle.gm_types.proofs.parts.blank_len.Given as goal
 
-abbrev pub invariant-loop-place : goal.invariant-loop-place
-invariant-loop-place l =
-    prefix_len is_blank l.text ≡ l.place + prefix_len is_blank (drop l.place l.text)
+abbrev pub invariant-loop-byte_place : goal.invariant-loop-byte_place
+invariant-loop-byte_place l =
+    prefix_len is_blank l.text ≡ l.byte_place + prefix_len is_blank (drop l.byte_place l.text)

@@ -12,10 +12,10 @@ known t place typed e = (holds_together t typed).geometry place e
 pub overflow_cast-result : goal.overflow_cast-result
 overflow_cast-result c =
     let typed = c.self.invariant.typed in
-    let at = known (kept c.self.inside) c.in-Some.place typed c.in-Some.is in
+    let at = known (kept c.self.inside) c.in_ok-place.place typed c.in_ok-place.was in
     omega (arith, at.within, typed.few)
 
-pub returns-in-Some-clause-kind : goal.returns-in-Some-clause-kind
-returns-in-Some-clause-kind c =
+pub returns-clause-kind : goal.returns-clause-kind
+returns-clause-kind c =
     rw (← c.self.view_is)
-    (known (kept c.self.inside) c.in-Some.place c.self.invariant.typed c.in-Some.is)
+    (known (kept c.self.inside) c.in_ok-place.place c.self.invariant.typed c.in_ok-place.was)
