@@ -187,6 +187,7 @@ impl Prepared {
             spec.do_overlap (lone_box p) area ≡ true }
         ensures { result ≡ list_any (R.held region.now) (points_of self.now) }
     {
+        // Read for the proof alone: its type says that the geometry is kept.
         let _ = &self.geometry;
         self.any_between(&Reaches { region }, area.low.y, area.high.y)
     }
