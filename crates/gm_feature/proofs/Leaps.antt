@@ -1,7 +1,7 @@
 -- The bytes behind a field, told without what stands in it.
 use Rattle.std.proofs.Common.{◌≡◌, ℕ, zero, suc, ◌+◌, ◌-◌, ◌*◌, ◌<◌, ◌≤◌, ℤ, Bool, true, false}
 use Rattle.std.proofs.Common.{◌&&◌, ltb, List, [], ◌∷◌, length, take, drop, get_or, Option, Some}
-use Rattle.std.proofs.Common.{refl, sym, ap, ◌∙◌, length-drop, arith}
+use Rattle.std.proofs.Common.{refl, sym, ap, ◌∙◌, length-drop, arith, nat_eq, ◌↔◌}
 use Rattle.std.specs.Int.{Width, w16, w32, w64, byte_len, from_be_bytes, cast_signed}
 use Rattle.std.specs.Option.{ForSome}
 use Rattle.std.specs.Prelude.{◌≢◌, is_none}
@@ -17,6 +17,7 @@ use Rattle.gm_geom.specs.Validity.{fault_of}
 use Rattle.gm_types.specs.declared.attribute.Attribute.{Attribute}
 use Rattle.gm_types.specs.declared.kind.GeoKind.{GeoKind}
 use Rattle.gm_types.specs.declared.kind.Kind.{Kind}
+use Rattle.gm_types.specs.declared.kind.Kind.TheVariants as kind
 use Rattle.gm_feature.specs.declared.value.Value.{Value}
 use Rattle.gm_feature.specs.declared.value.Value.TheVariants as value
 use Rattle.gm_feature.specs.Reader.{◌>>=◌, only_if, made, number_from, signed_from, string_from}
@@ -308,6 +309,41 @@ present_value k [] x long there e = absurd (omega arith)
 present_value k (zero ∷ bytes) x long there e = absurd (there refl)
 present_value k (suc zero ∷ bytes) x long there e = ap (content_from k) (tail_is 1 bytes) ∙ e
 present_value k (suc (suc byte) ∷ bytes) x long there e = absurd cc
+
+-- ---- null
+
+not_made : {A : Type 0} (make : A → Value) → ((a : A) → make a ≡ value.Null → ⊥)
+    → (o : Option (A × List ℕ)) (x : Value × List ℕ) → made make o ≡ Some x
+    → x.0 ≡ value.Null → ⊥
+not_made make apart o x e null =
+    let m = made_some make o x e in
+    apart m.0.0 (ap (λ (p : Value × List ℕ). p.0) m.2 ∙ null)
+
+no_null_content : (k : Kind) (bytes : List ℕ) (x : Value × List ℕ) → content_from k bytes ≡ Some x
+    → x.0 ≡ value.Null → ⊥
+no_null_content kind.Text bytes x e null =
+    not_made (λ t. value.Text t) (λ t same. absurd cc) (text_from bytes) x e null
+no_null_content kind.Integer bytes x e null =
+    not_made (λ z. value.Integer z) (λ z same. absurd cc) (signed_from w32 bytes) x e null
+no_null_content kind.Long bytes x e null =
+    not_made (λ z. value.Long z) (λ z same. absurd cc) (signed_from w64 bytes) x e null
+no_null_content kind.Boolean bytes x e null =
+    not_made (λ b. value.Boolean b) (λ b same. absurd cc) (truth_from bytes) x e null
+no_null_content kind.Date bytes x e null =
+    not_made (λ at. value.Date at) (λ at same. absurd cc) (instant_from bytes) x e null
+no_null_content (kind.Geo shape) bytes x e null =
+    not_made (λ g. value.Geo g) (λ g same. absurd cc) (geometry_from shape bytes) x e null
+
+-- the first byte of a value that is read tells whether it is null
+pub null_tells : (k : Kind) (bytes : List ℕ) (x : Value × List ℕ) → value_from k bytes ≡ Some x
+    → (nat_eq (get_or bytes 0 0) 0 ≡ true) ↔ (x.0 ≡ value.Null)
+unfolding value_from
+null_tells k [] x e = absurd cc
+null_tells k (zero ∷ bytes) x e =
+    (λ yes. ap (λ (p : Value × List ℕ). p.0) (sym (some_is (value.Null, bytes) x e)), λ null. refl)
+null_tells k (suc zero ∷ bytes) x e =
+    (λ yes. absurd cc, λ null. absurd (no_null_content k bytes x e null))
+null_tells k (suc (suc byte) ∷ bytes) x e = absurd cc
 
 -- ---- the kinds of geometry
 

@@ -1,7 +1,7 @@
 -- What is seen in place, and the values that it says.
 use Rattle.std.proofs.Common.{◌≡◌, ◌≢◌, ℕ, zero, suc, ◌<◌, ◌≤◌, ℤ, true, false, List, [], ◌∷◌}
 use Rattle.std.proofs.Common.{◌++◌, length, take, drop, get_or, Option, Some, None, refl, sym}
-use Rattle.std.proofs.Common.{ap, subst, ◌∙◌, append-nil, arith}
+use Rattle.std.proofs.Common.{ap, subst, ◌∙◌, append-nil, arith, ◌↔◌, Bool}
 use Rattle.std.specs.Int.{w64, cast_signed, cast_unsigned}
 use Rattle.std.specs.Int.RustNames.{FitsSigned}
 use Rattle.std.specs.Option.{ForSome}
@@ -15,6 +15,7 @@ use Rattle.gm_geom.specs.declared.point.Point.{Point}
 use Rattle.gm_geom.specs.Validity.{fault_of}
 use Rattle.gm_types.specs.declared.attribute.Attribute.{Attribute}
 use Rattle.gm_types.specs.declared.kind.GeoKind.TheVariants as shape
+use Rattle.gm_types.specs.declared.kind.Kind.{Kind}
 use Rattle.gm_feature.specs.declared.cursor.StoredValues.{StoredValues}
 use Rattle.gm_feature.specs.declared.feature.Feature.{Feature}
 use Rattle.gm_feature.specs.declared.stored.Stored.{Stored}
@@ -111,6 +112,18 @@ value_there (a ∷ attributes) (v ∷ values) zero d lt fit =
 value_there (a ∷ attributes) (v ∷ values) (suc n) d lt fit =
     value_there attributes values n d (omega arith)
     (both_of (value_fits a.kind v) (values_fit (kinds attributes) values) fit).1
+
+-- whether the value in a place is null is told of what is left there
+pub null_there : (attributes : List Attribute) (values : List Value) (n : ℕ) (told : Bool)
+    → n < length attributes → values_fit (kinds attributes) values ≡ true
+    → ((k : Kind) → ForSome (value_from k (values_bytes (drop n values)))
+    (λ x. (told ≡ true) ↔ (x.0 ≡ value.Null)))
+    → (told ≡ true) ↔ (get_or values n value.Null ≡ value.Null)
+null_there [] values n told lt fit tells = absurd (omega arith)
+null_there (a ∷ attributes) values n told lt fit tells =
+    tells (get_or (a ∷ attributes) n a).kind
+    (get_or values n value.Null, values_bytes (drop (suc n) values))
+    (value_there (a ∷ attributes) values n a lt fit)
 
 -- there is no value in a place behind the attributes
 pub no_value_there : (attributes : List Attribute) (values : List Value) (n : ℕ)

@@ -13,6 +13,7 @@ pub struct Feature {
     pub values: Values,
 }
 
+/// Features, in the order given.
 pub type FeatureList = Items<Feature>;
 
 impl Feature {

@@ -1,5 +1,5 @@
 // Which features fit a type.
-ghost use Rattle.std.specs.Prelude.{◌≡◌, ◌↔◌, IsTrue, List, length, map, slice_get};
+ghost use Rattle.std.specs.Prelude.{◌≡◌, ◌↔◌, IsTrue, map};
 ghost use Rattle.std.specs.List.{list_all};
 ghost use Rattle.gm_feature.specs.Feature as spec;
 ghost use Rattle.gm_feature.specs.Feature.{Fits};
@@ -13,12 +13,14 @@ use gm_types::{Attribute, FeatureType, IndexKind, Kind};
 /// The greatest number of bytes of a text.
 pub const TEXT_LIMIT: usize = 1_048_576;
 
-/// Whether a feature fits a type. It takes no memory.
+/// Whether a feature fits a type: it has a value for each attribute, null or a sound one of the
+/// attribute's kind, and a default date as `dates_fit` asks. It takes no memory.
 pub fn fits(of: &FeatureType, feature: &Feature) -> bool
     ensures test { result ≡ spec.fits of.now feature.now }
     ensures fact { IsTrue result ↔ Fits of.now feature.now }
 {
     let values = feature.values.as_slice();
+    // Read for the proof alone: the type of an identifier says that it is one.
     let _identifier = feature.id.as_bytes();
     values_fit(of.attributes().as_slice(), values) && dates_fit(of, values)
 }
@@ -30,8 +32,8 @@ fn values_fit(attributes: &[Attribute], values: &[Value]) -> bool
     if attributes.len() != values.len() {
         return false;
     }
-    'values: for (attribute, value) in values.iter().enumerate() {
-        if !value_fits(attributes[attribute].kind, value) {
+    'values: for (number, value) in values.iter().enumerate() {
+        if !value_fits(attributes[number].kind, value) {
             return false;
         }
     }
@@ -62,7 +64,8 @@ fn is_of_kind(kind: Kind, value: &Value) -> bool
     }
 }
 
-// Whether a text has the form of one, and a geometry is kept. Every number and instant is sound.
+// Whether a text has the form of one, and a geometry is kept. Every number and instant is sound:
+// it is read for the proof alone, which sees the range of its type.
 fn is_sound(value: &Value) -> bool
     ensures { result ≡ value_spec.is_sound value.now }
 {
@@ -82,10 +85,7 @@ fn is_sound(value: &Value) -> bool
             let _range = at.ms();
             true
         }
-        Value::Geo(geometry) => match check(geometry) {
-            Ok(()) => true,
-            Err(_) => false,
-        },
+        Value::Geo(geometry) => check(geometry).is_ok(),
     }
 }
 
@@ -93,9 +93,7 @@ fn is_sound(value: &Value) -> bool
 pub fn has_text_form(bytes: &[u8]) -> bool
     ensures { result ≡ value_spec.has_text_form bytes.now }
 {
-    let some = !bytes.is_empty();
-    let few = bytes.len() <= TEXT_LIMIT;
-    some && few && has_no_zero(bytes)
+    !bytes.is_empty() && bytes.len() <= TEXT_LIMIT && has_no_zero(bytes)
 }
 
 fn has_no_zero(bytes: &[u8]) -> bool

@@ -4,15 +4,18 @@ ghost use Rattle.gm_feature.specs.Reader.{point_from, points_from, lines_from, a
 
 use crate::halt::Halt;
 use crate::number::{count_of, i32_of};
-use crate::shape::has_shape;
+use crate::shape::{
+    AREA_TAG, LINE_TAG, MANY_AREAS_TAG, MANY_LINES_TAG, MANY_POINTS_TAG, POINT_TAG, has_shape,
+};
 use gm_base::Items;
 use gm_geom::{Areas, Geometry, Lines, Point, Points, check};
 use gm_types::GeoKind;
 use std::alloc::Global;
 
-/// The least numbers of bytes of a point and of a list.
+/// The bytes of a point: two coordinates of four.
 pub const POINT_BYTES: u8 = 8;
 
+/// The least number of bytes of a list: its count.
 pub const LIST_BYTES: u8 = 4;
 
 /// A geometry that is kept, and that an attribute of the kind may hold.
@@ -38,27 +41,27 @@ fn body_of(alloc: Global, tag: u8, bytes: &[u8]) -> Result<(Geometry, &[u8]), Ha
     ensures { Gives (λ x. (x.0, x.1.now)) result (body_from tag bytes.now) }
 {
     match tag {
-        1 => {
+        POINT_TAG => {
             let (point, rest) = point_of(bytes)?;
             Ok((Geometry::Point(point), rest))
         }
-        2 => {
+        LINE_TAG => {
             let (points, rest) = points_of(alloc, bytes)?;
             Ok((Geometry::Line(points), rest))
         }
-        3 => {
+        AREA_TAG => {
             let (rings, rest) = lines_of(alloc, bytes)?;
             Ok((Geometry::Area(rings), rest))
         }
-        4 => {
+        MANY_POINTS_TAG => {
             let (points, rest) = points_of(alloc, bytes)?;
             Ok((Geometry::ManyPoints(points), rest))
         }
-        5 => {
+        MANY_LINES_TAG => {
             let (lines, rest) = lines_of(alloc, bytes)?;
             Ok((Geometry::ManyLines(lines), rest))
         }
-        6 => {
+        MANY_AREAS_TAG => {
             let (areas, rest) = areas_of(alloc, bytes)?;
             Ok((Geometry::ManyAreas(areas), rest))
         }

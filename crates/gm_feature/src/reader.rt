@@ -17,7 +17,8 @@ use gm_calendar::Instant;
 use gm_types::{Attribute, FeatureType, Kind};
 use std::alloc::Global;
 
-/// The feature that fits the type and has these bytes, if there is one.
+/// The feature that fits the type and has these bytes, if there is one. docs/LANGUAGE.md lays them
+/// out.
 pub fn from_bytes(
     alloc: Global,
     of: &FeatureType,

@@ -7,6 +7,19 @@ use gm_geom::{Areas, Geometry, Lines, Points};
 use gm_types::GeoKind;
 use std::alloc::Global;
 
+/// The bytes that tell the kind of a geometry.
+pub const POINT_TAG: u8 = 1;
+
+pub const LINE_TAG: u8 = 2;
+
+pub const AREA_TAG: u8 = 3;
+
+pub const MANY_POINTS_TAG: u8 = 4;
+
+pub const MANY_LINES_TAG: u8 = 5;
+
+pub const MANY_AREAS_TAG: u8 = 6;
+
 /// Whether an attribute of the kind may hold the geometry.
 pub fn has_shape(shape: GeoKind, geometry: &Geometry) -> bool
     ensures { result ≡ spec.has_shape shape geometry.now }

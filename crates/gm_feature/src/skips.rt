@@ -8,6 +8,9 @@ ghost use Rattle.gm_feature.specs.Reader.{value_from, values_from};
 
 use crate::fronts::{count_at, string_at};
 use crate::lists::{LIST_BYTES, POINT_BYTES};
+use crate::shape::{
+    AREA_TAG, LINE_TAG, MANY_AREAS_TAG, MANY_LINES_TAG, MANY_POINTS_TAG, POINT_TAG,
+};
 use gm_types::{Attribute, Kind};
 
 fn behind(count: usize, bytes: &[u8]) -> &[u8]
@@ -66,12 +69,12 @@ fn skip_body(tag: u8, bytes: &[u8]) -> &[u8]
     ensures { ForSome (body_from tag bytes.now) (λ x. result.now ≡ x.1) }
 {
     match tag {
-        1 => behind(8, bytes),
-        2 => skip_points(bytes),
-        3 => skip_lines(bytes),
-        4 => skip_points(bytes),
-        5 => skip_lines(bytes),
-        6 => skip_areas(bytes),
+        POINT_TAG => behind(8, bytes),
+        LINE_TAG => skip_points(bytes),
+        AREA_TAG => skip_lines(bytes),
+        MANY_POINTS_TAG => skip_points(bytes),
+        MANY_LINES_TAG => skip_lines(bytes),
+        MANY_AREAS_TAG => skip_areas(bytes),
         _ => bytes,
     }
 }

@@ -8,6 +8,9 @@ ghost use Rattle.gm_feature.specs.Reader.{lines_from, areas_from, body_from};
 
 use crate::fronts::{count_at, point_at};
 use crate::lists::{LIST_BYTES, POINT_BYTES};
+use crate::shape::{
+    AREA_TAG, LINE_TAG, MANY_AREAS_TAG, MANY_LINES_TAG, MANY_POINTS_TAG, POINT_TAG,
+};
 use gm_geom::{Box2, Point, high_corner, low_corner};
 
 fn widen(extent: Option<Box2>, point: Point) -> Option<Box2>
@@ -103,12 +106,12 @@ pub fn span_at(tag: u8, bytes: &[u8]) -> (Option<Box2>, &[u8])
         (λ x. (result.0 ≡ extent_of (points_of x.0)) × (result.1.now ≡ x.1)) }
 {
     match tag {
-        1 => by_point(None, bytes),
-        2 => by_points(None, bytes),
-        3 => by_lines(None, bytes),
-        4 => by_points(None, bytes),
-        5 => by_lines(None, bytes),
-        6 => by_areas(None, bytes),
+        POINT_TAG => by_point(None, bytes),
+        LINE_TAG => by_points(None, bytes),
+        AREA_TAG => by_lines(None, bytes),
+        MANY_POINTS_TAG => by_points(None, bytes),
+        MANY_LINES_TAG => by_lines(None, bytes),
+        MANY_AREAS_TAG => by_areas(None, bytes),
         _ => (None, bytes),
     }
 }

@@ -1,12 +1,13 @@
 // The bytes of features, read in place.
 ghost use Rattle.std.specs.Prelude.{◌≡◌, ◌++◌, ℕ, List, length, Some, None};
-ghost use Rattle.std.specs.Prelude.{false, IfNone, IfOk, IfSome};
+ghost use Rattle.std.specs.Prelude.{false, IfNone, IfOk, IfSome, IsTrue, ◌↔◌};
 ghost use Rattle.std.specs.Option.{ForSome};
 ghost use Rattle.gm_geom.specs.declared.geometry.Geometry.{Geometry as AnyGeometry};
 ghost use Rattle.gm_geom.specs.Extent.{extent_of};
 ghost use Rattle.gm_geom.specs.Geometry.{points_of};
 ghost use Rattle.gm_geom.specs.Validity.{fault_of};
 ghost use Rattle.gm_types.specs.declared.kind.GeoKind.{GeoKind as AnyKind};
+ghost use Rattle.gm_types.specs.declared.kind.Kind.{Kind as AnyValueKind};
 ghost use Rattle.gm_feature.specs.declared.feature.Feature.{Feature};
 ghost use Rattle.gm_feature.specs.declared.value.Value.TheVariants as value;
 ghost use Rattle.gm_feature.specs.Feature.{value_at};
@@ -19,6 +20,7 @@ use crate::cursor::StoredValues;
 use crate::fronts::{integer_at, long_at, point_at, short_string_at, string_at};
 use crate::halt::Halt;
 use crate::lists::geometry_of;
+use crate::shape::POINT_TAG;
 use crate::skips::skip_values;
 use crate::spans::span_at;
 use gm_base::NoMemory;
@@ -89,6 +91,21 @@ impl<'a> Stored<'a> {
         )
     }
 
+    /// Whether the value of the attribute with that number, from 0, is null. It takes no memory,
+    /// and the time of the values before it: the value itself is not read.
+    pub fn is_null(&self, attribute: u16) -> bool
+        ensures { (f : Feature) → IsStored self.now f
+            → IsTrue result ↔ (value_at f attribute ≡ value.Null) }
+    {
+        let attributes = self.of.attributes().as_slice();
+        let number = attribute as usize;
+        if attributes.len() <= number {
+            return true;
+        }
+        let (before, _) = attributes.split_at(number);
+        begins_with_null(skip_values(before, values_of(self.bytes)))
+    }
+
     /// All values, in the order of the attributes.
     pub fn values(&self) -> StoredValues<'a>
         ensures { (f : Feature) → IsStored self.now f → AreStored result f.values }
@@ -107,6 +124,17 @@ fn values_of(bytes: &[u8]) -> &[u8]
     ensures { ForSome (identifier_from bytes.now) (λ x. result.now ≡ x.1) }
 {
     short_string_at(bytes).1
+}
+
+// Whether the first byte tells of null.
+fn begins_with_null(bytes: &[u8]) -> bool
+    ensures { (kind : AnyValueKind) → ForSome (value_from kind bytes.now)
+        (λ x. IsTrue result ↔ (x.0 ≡ value.Null)) }
+{
+    match bytes {
+        [] => true,
+        [presence, ..] => *presence == 0,
+    }
 }
 
 /// The value of that kind at the front of the bytes.
@@ -147,10 +175,7 @@ fn text_at(bytes: &[u8]) -> &[u8]
 fn truth_at(bytes: &[u8]) -> bool
     ensures { ForSome (truth_from bytes.now) (λ x. result ≡ x.0) }
 {
-    match bytes {
-        [1, ..] => true,
-        _ => false,
-    }
+    matches!(bytes, [1, ..])
 }
 
 fn stored_date(bytes: &[u8]) -> StoredValue<'_>
@@ -169,7 +194,7 @@ fn stored_geometry(bytes: &[u8]) -> StoredValue<'_>
     match bytes {
         [] => StoredValue::Null,
         [tag, rest @ ..] => {
-            if *tag == 1 {
+            if *tag == POINT_TAG {
                 return StoredValue::Point(point_at(rest).0);
             }
             let (extent, after) = span_at(*tag, rest);

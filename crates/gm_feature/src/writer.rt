@@ -6,6 +6,9 @@ ghost use Rattle.gm_feature.specs.Feature.{Fits};
 ghost use Rattle.gm_feature.specs.Writer as spec;
 ghost use Rattle.gm_feature.specs.Value.{is_sound};
 
+use crate::shape::{
+    AREA_TAG, LINE_TAG, MANY_AREAS_TAG, MANY_LINES_TAG, MANY_POINTS_TAG, POINT_TAG,
+};
 use crate::{Feature, Value};
 use byteorder::{BigEndian, ByteOrder};
 use gm_base::{Bytes, NoMemory};
@@ -16,7 +19,7 @@ use std::alloc::Global;
 /// The room that is made for a value at first.
 const VALUE_ROOM: usize = 16;
 
-/// The bytes of a feature that fits.
+/// The bytes of a feature that fits. docs/LANGUAGE.md lays them out.
 pub fn to_bytes(alloc: Global, of: &FeatureType, feature: &Feature) -> Result<Bytes, NoMemory>
     requires { Fits of.now feature.now }
     ensures { IfOk result (λ bytes. bytes ≡ spec.feature_bytes feature.now) }
@@ -47,12 +50,12 @@ fn presence_byte(value: &Value) -> u8
 {
     match value {
         Value::Null => 0,
-        Value::Text(_) => 1,
-        Value::Integer(_) => 1,
-        Value::Long(_) => 1,
-        Value::Boolean(_) => 1,
-        Value::Date(_) => 1,
-        Value::Geo(_) => 1,
+        Value::Text(_)
+        | Value::Integer(_)
+        | Value::Long(_)
+        | Value::Boolean(_)
+        | Value::Date(_)
+        | Value::Geo(_) => 1,
     }
 }
 
@@ -133,12 +136,12 @@ fn shape_byte(geometry: &Geometry) -> u8
     ensures { result ≡ spec.shape_byte geometry.now }
 {
     match geometry {
-        Geometry::Point(_) => 1,
-        Geometry::Line(_) => 2,
-        Geometry::Area(_) => 3,
-        Geometry::ManyPoints(_) => 4,
-        Geometry::ManyLines(_) => 5,
-        Geometry::ManyAreas(_) => 6,
+        Geometry::Point(_) => POINT_TAG,
+        Geometry::Line(_) => LINE_TAG,
+        Geometry::Area(_) => AREA_TAG,
+        Geometry::ManyPoints(_) => MANY_POINTS_TAG,
+        Geometry::ManyLines(_) => MANY_LINES_TAG,
+        Geometry::ManyAreas(_) => MANY_AREAS_TAG,
     }
 }
 

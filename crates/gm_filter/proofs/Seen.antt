@@ -1,5 +1,5 @@
 -- What is told of values that are seen in place.
-use Rattle.std.proofs.Common.{◌≡◌, ◌↔◌, Bool, true, false, List, [], ◌∷◌, ℕ, refl, sym, ◌∙◌}
+use Rattle.std.proofs.Common.{◌≡◌, ◌↔◌, Bool, true, false, List, [], ◌∷◌, ℕ, refl, sym, ◌∙◌, ap}
 use Rattle.std.proofs.lemmas.Bool.{and_parts, and_from}
 use Rattle.std.proofs.lemmas.Str.{IsUtf8-from_is_utf8}
 use Rattle.std.specs.Prelude.{int_le}
@@ -13,10 +13,11 @@ use Rattle.gm_geom.specs.declared.geometry.Geometry.TheVariants as geo
 use Rattle.gm_geom.specs.Extent.{IsInBox}
 use Rattle.gm_shapes.specs.Segment.{lone_box, do_overlap, reaches}
 use Rattle.gm_shapes.specs.Meeting.{do_intersect, box_area}
+use Rattle.gm_feature.specs.declared.value.Value.{Value}
 use Rattle.gm_feature.specs.declared.value.Value.TheVariants as value
 use Rattle.gm_feature.specs.Value.{is_sound, has_text_form}
 use Rattle.gm_filter.specs.declared.filter.Literal.{Literal}
-use Rattle.gm_filter.specs.Truth.{is_one_of}
+use Rattle.gm_filter.specs.Truth.{is_one_of, is_null_value}
 
 -- ---- answers that are one
 
@@ -51,6 +52,23 @@ pub point_meets : (p : Point) (b : Box2)
 point_meets p b meets =
     same_tests _ _ (λ over. meets.1 (in_where_overlapping p b over))
     (λ met. overlapping_where_in p b (meets.0 met))
+
+-- ---- null
+
+null_where_tested : (v : Value) → is_null_value v ≡ true → v ≡ value.Null
+null_where_tested value.Null h = refl
+null_where_tested (value.Text t) h = absurd cc
+null_where_tested (value.Integer z) h = absurd cc
+null_where_tested (value.Long z) h = absurd cc
+null_where_tested (value.Boolean b) h = absurd cc
+null_where_tested (value.Date at) h = absurd cc
+null_where_tested (value.Geo g) h = absurd cc
+
+pub null_is_told : (v : Value) (told : Bool) → ((told ≡ true) ↔ (v ≡ value.Null))
+    → told ≡ is_null_value v
+null_is_told v told tells =
+    same_tests told (is_null_value v) (λ yes. ap is_null_value (tells.0 yes))
+    (λ h. tells.1 (null_where_tested v h))
 
 -- ---- what is no point lies within nothing
 

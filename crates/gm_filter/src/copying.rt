@@ -49,7 +49,7 @@ pub fn copy(alloc: Global, filter: &Filter) -> Result<Filter, NoMemory>
 fn copy_all(alloc: Global, filters: &[Filter]) -> Result<FilterList, NoMemory>
     ensures { IfOk result (λ copies. map tree copies.items ≡ map tree filters.now) }
 {
-    let mut copies = Vec::new(alloc);
+    let mut copies = Vec::with_capacity(alloc, filters.len())?;
     for filter in filters {
         copies.push(copy(alloc, filter)?)?;
     }
@@ -70,7 +70,7 @@ fn copy_literal(alloc: Global, literal: &Literal) -> Result<Literal, NoMemory>
 fn copy_literals(alloc: Global, literals: &LiteralList) -> Result<LiteralList, NoMemory>
     ensures { IfOk result (λ copies. copies ≡ literals.now) }
 {
-    let mut copies = Vec::new(alloc);
+    let mut copies = Vec::with_capacity(alloc, literals.len())?;
     for literal in literals.as_slice() {
         copies.push(copy_literal(alloc, literal)?)?;
     }
@@ -80,7 +80,7 @@ fn copy_literals(alloc: Global, literals: &LiteralList) -> Result<LiteralList, N
 fn copy_texts(alloc: Global, texts: &TextList) -> Result<TextList, NoMemory>
     ensures { IfOk result (λ copies. copies ≡ texts.now) }
 {
-    let mut copies = Vec::new(alloc);
+    let mut copies = Vec::with_capacity(alloc, texts.len())?;
     for text in texts.as_slice() {
         copies.push(text.copy(alloc)?)?;
     }

@@ -1,4 +1,5 @@
-// Comparisons of the value of an attribute that is read in place. No geometry passes one.
+// Comparisons of the value of an attribute that is read in place. No geometry passes one; the arm
+// for it shows the prover all types of a value.
 ghost use Rattle.std.specs.Prelude.{◌≡◌};
 ghost use Rattle.gm_feature.specs.declared.feature.Feature.{Feature};
 ghost use Rattle.gm_feature.specs.Feature.{value_at};
@@ -70,7 +71,7 @@ pub(crate) fn is_null_at(stored: &Stored<'_>, at: u16) -> bool
     ensures { (f : Feature) → IsStored stored.now f
         → result ≡ spec.is_null_value (value_at f at) }
 {
-    matches!(stored.value(at), StoredValue::Null)
+    stored.is_null(at)
 }
 
 pub(crate) fn is_like_at(stored: &Stored<'_>, at: u16, pattern: &Text) -> bool

@@ -2,7 +2,6 @@
 ghost use Rattle.std.specs.Prelude.{◌≡◌, ◌&&◌, ◌^◌, nat_le, length, map};
 ghost use Rattle.std.specs.List.{list_all};
 ghost use Rattle.std.specs.Str.{is_utf8 as spec_utf8};
-ghost use Rattle.gm_geom.specs.Validity as validity;
 ghost use Rattle.gm_calendar.specs.Instant as calendar;
 ghost use Rattle.gm_types.specs.Kind as kinds;
 ghost use Rattle.gm_types.specs.Specification.{kind_at};
@@ -14,7 +13,7 @@ ghost use Rattle.gm_filter.specs.Tree.{tree, trees_of, members_of};
 use crate::{Filter, Literal, Op};
 use gm_base::Text;
 use gm_calendar::Instant;
-use gm_geom::{Box2, Geometry, Point, check};
+use gm_geom::{Box2, Geometry, check, is_point_in_world};
 use gm_types::{FeatureType, GeoKind, Kind};
 
 /// Whether each And and Or of the filter has two or more members, each list one or more, and each
@@ -144,11 +143,12 @@ fn is_integer(number: i64) -> bool
     i64::from(i32::MIN) <= number && number <= i64::from(i32::MAX)
 }
 
-// Each number of 64 bits is.
+// Each number of 64 bits is. It is read for the proof alone, which sees the range of its type.
 fn is_long(number: i64) -> bool
     ensures { result ≡ is_below (2 ^ 63) number }
 {
-    i64::MIN <= number && number <= i64::MAX
+    let _range = number;
+    true
 }
 
 // Each text is, by its type.
@@ -206,18 +206,14 @@ fn is_point(kind: Option<Kind>) -> bool
 fn is_kept(geometry: &Geometry) -> bool
     ensures { result ≡ spec.is_kept geometry.now }
 {
-    match check(geometry) {
-        Ok(()) => true,
-        Err(_) => false,
-    }
+    check(geometry).is_ok()
 }
 
 fn is_kept_area(geometry: &Geometry) -> bool
     ensures { result ≡ (spec.has_area geometry.now && spec.is_kept geometry.now) }
 {
     match geometry {
-        Geometry::Area(_) => is_kept(geometry),
-        Geometry::ManyAreas(_) => is_kept(geometry),
+        Geometry::Area(_) | Geometry::ManyAreas(_) => is_kept(geometry),
         _ => false,
     }
 }
@@ -225,20 +221,8 @@ fn is_kept_area(geometry: &Geometry) -> bool
 fn is_box(area: Box2) -> bool
     ensures { result ≡ spec.is_box area }
 {
-    is_in_world(area.low)
-        && is_in_world(area.high)
+    is_point_in_world(area.low)
+        && is_point_in_world(area.high)
         && area.low.x <= area.high.x
         && area.low.y <= area.high.y
-}
-
-fn is_in_world(point: Point) -> bool
-    ensures { result ≡ validity.is_in_world point }
-{
-    is_within(1_800_000_000, point.x) && is_within(900_000_000, point.y)
-}
-
-fn is_within(limit: u32, value: i32) -> bool
-    ensures { result ≡ validity.is_within limit value }
-{
-    value.unsigned_abs() <= limit
 }

@@ -1,5 +1,5 @@
 // Whether a filter is true of a feature.
-ghost use Rattle.std.specs.Prelude.{◌≡◌, ◌≤ℤ◌, None, map};
+ghost use Rattle.std.specs.Prelude.{◌≡◌, None, map};
 ghost use Rattle.std.specs.List.{list_any};
 ghost use Rattle.std.specs.Str.{bytes_eq};
 ghost use Rattle.gm_geom.specs.Validity.{fault_of};

@@ -15,4 +15,4 @@ pub use laws::{extents_are_least, has_number_bytes, numbers_are_spelled, reads_b
 pub use number::{NUMBER_LIMIT, NumberFault, read_fixed};
 pub use point::{Box2, Point};
 pub use printer::{append_fixed, print_fixed};
-pub use validity::{GeomFault, POINT_LIMIT, check};
+pub use validity::{GeomFault, POINT_LIMIT, check, is_point_in_world};

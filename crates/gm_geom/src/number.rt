@@ -1,8 +1,5 @@
-// Fixed-point numbers: decimal text to whole units of 10^-7, and back.
-ghost use Rattle.std.specs.Prelude.{◌≡◌, ℕ, IfSome, ◌<◌, ◌≤◌, ◌+◌, ◌-◌, ◌*◌, ◌/◌};
-ghost use Rattle.std.specs.Prelude.{◌^◌, ◌++◌, [], ◌∷◌, length, take, drop, true};
-ghost use Rattle.std.specs.Prelude.{MatchOption, IfOk, OnOk, IsTrue, ◌↔◌};
-ghost use Rattle.std.specs.String.{string_bytes};
+// Fixed-point numbers: decimal text to whole units of 10^-7.
+ghost use Rattle.std.specs.Prelude.{◌≡◌, ℕ, IfSome, ◌<◌, ◌≤◌, ◌+◌, ◌-◌, ◌*◌, ◌/◌, ◌^◌, length};
 ghost use Rattle.std.specs.List.{list_all, prefix_len};
 ghost use Rattle.std.specs.Char.{is_ascii_digit};
 ghost use Rattle.std.specs.Str.Parse as parse;
@@ -11,15 +8,10 @@ ghost use Rattle.gm_geom.specs.Number as spec;
 ghost use Rattle.gm_geom.specs.Number.{digits_at, behind_digits, fraction_at, behind_fraction};
 ghost use Rattle.gm_geom.specs.Number.{AreDigits, Fits, IsCapped, nearest};
 
-use gm_base::{NoMemory, Text};
-use std::alloc::Global;
 use thiserror::Error;
 
 /// The greatest number of bytes of a number.
 pub const NUMBER_LIMIT: usize = 38;
-
-/// The units of a degree.
-const DEGREE: u32 = 10_000_000;
 
 /// The places of a unit: a unit is 10^-7.
 const PLACES: u32 = 7;

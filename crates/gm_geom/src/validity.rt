@@ -105,7 +105,8 @@ fn is_in_world(geometry: &Geometry) -> bool
     }
 }
 
-fn is_point_in_world(point: Point) -> bool
+/// Whether a point is within 180 degrees of longitude and 90 of latitude. It takes no memory.
+pub fn is_point_in_world(point: Point) -> bool
     ensures { result ≡ spec.is_in_world point }
 {
     is_within(LONGITUDE_LIMIT, point.x) && is_within(LATITUDE_LIMIT, point.y)
@@ -203,10 +204,8 @@ fn has_short_line(geometry: &Geometry) -> bool
     match geometry {
         Geometry::Line(points) => points.len() < 2,
         Geometry::ManyLines(lines) => lines.as_slice().iter().any(|line| line.len() < 2),
-        Geometry::Point(_) => false,
-        Geometry::Area(_) => false,
-        Geometry::ManyPoints(_) => false,
-        Geometry::ManyAreas(_) => false,
+        Geometry::Point(_) | Geometry::Area(_) | Geometry::ManyPoints(_) | Geometry::ManyAreas(_) =>
+            false,
     }
 }
 
@@ -216,10 +215,8 @@ fn has_closed_rings(geometry: &Geometry) -> bool
     match geometry {
         Geometry::Area(rings) => are_closed(rings),
         Geometry::ManyAreas(areas) => all_closed(areas),
-        Geometry::Point(_) => true,
-        Geometry::Line(_) => true,
-        Geometry::ManyPoints(_) => true,
-        Geometry::ManyLines(_) => true,
+        Geometry::Point(_) | Geometry::Line(_) | Geometry::ManyPoints(_) | Geometry::ManyLines(_) =>
+            true,
     }
 }
 

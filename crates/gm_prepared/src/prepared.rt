@@ -1,8 +1,9 @@
 // A geometry whose edges stand in bands, and what it meets.
-ghost use Rattle.std.specs.Prelude.{◌≡◌, ◌<◌, ◌≤ℤ◌, ◌||◌, not, true, None, IfOk};
+ghost use Rattle.std.specs.Prelude.{◌≡◌, ◌<◌, ◌≤ℤ◌, ◌||◌, not, true, None, Some, IfOk};
 ghost use Rattle.std.specs.List.{list_any};
 ghost use Rattle.gm_geom.specs.declared.point.Point.{Point};
 ghost use Rattle.gm_geom.specs.declared.geometry.Geometry.TheVariants as geo;
+ghost use Rattle.gm_geom.specs.Extent.{IsLeastBox, extent_of};
 ghost use Rattle.gm_geom.specs.Geometry.{points_of, areas_of};
 ghost use Rattle.gm_geom.specs.Validity.{fault_of, is_empty};
 ghost use Rattle.gm_shapes.specs.Segment as spec;
@@ -24,7 +25,7 @@ use crate::edge_test::{EdgeTest, Meets, Reaches, any_passes};
 use crate::placing::placed;
 use crate::standing::has_inside;
 use gm_base::NoMemory;
-use gm_geom::{Box2, Geometry, Point, bounds};
+use gm_geom::{Box2, Geometry, Point, bounds, extents_are_least};
 use gm_shapes::{
     Bounded, ClosedBox, Region, Segment, Shape, any_edge, any_edge_between, any_point, any_vertex,
     box_of, do_overlap, has_area, holds_each_edge, is_in_box, lies_in_bounds_where_in_area,
@@ -70,6 +71,15 @@ impl Prepared {
             bounds: extent,
             lists,
         })
+    }
+
+    /// The least box that holds all points of the geometry.
+    pub fn bounds(&self) -> Box2
+        ensures least { IsLeastBox result (points_of self.now) }
+        ensures extent { extent_of (points_of self.now) ≡ Some result }
+    {
+        extents_are_least();
+        self.bounds
     }
 
     /// How many bands there are: as many as the bounds have y values, and 256 at most.
@@ -187,6 +197,7 @@ impl Prepared {
             spec.do_overlap (lone_box p) area ≡ true }
         ensures { result ≡ list_any (R.held region.now) (points_of self.now) }
     {
+        // Read for the proof alone: its type says that the geometry is kept.
         let _ = &self.geometry;
         self.any_between(&Reaches { region }, area.low.y, area.high.y)
     }

@@ -1,6 +1,6 @@
 // Laws of rows and ranges, for proofs. Each is the contract of a function that does nothing but
 // call those that it rests on.
-ghost use Rattle.std.specs.Prelude.{◌≡◌, ◌≤◌, ◌++◌, ℕ, List, All, length};
+ghost use Rattle.std.specs.Prelude.{◌≡◌, ◌≤◌, ◌++◌, List, All, length};
 ghost use Rattle.gm_base.specs.Spans.{Span};
 ghost use Rattle.gm_table.specs.Apart.{AreApart};
 ghost use Rattle.gm_table.specs.Sorted.{Rows};

@@ -15,7 +15,7 @@ ghost use Rattle.gm_filter.specs.Truth as truth;
 
 use gm_base::NoMemory;
 use gm_feature::{Stored, StoredGeometry, StoredValue};
-use gm_geom::{Box2, Geometry, Point, bounds};
+use gm_geom::{Box2, Geometry, Point};
 use gm_prepared::Prepared;
 use gm_shapes::{do_overlap, meeting_is_symmetric, overlaps_where_meeting};
 use std::alloc::Global;
@@ -36,8 +36,8 @@ impl Target {
         ensures { IfOk result (λ target. target.prepared ≡ geometry.now) }
     {
         overlaps_where_meeting();
-        let extent = bounds(geometry);
         let prepared = Prepared::of(alloc, geometry)?;
+        let extent = prepared.bounds();
         Ok(Target {
             prepared,
             bounds: extent,

@@ -1,6 +1,6 @@
 // The edges of a geometry, and whether one of them meets a shape.
 ghost use Rattle.std.specs.Prelude.{◌≡◌, Bool, map};
-ghost use Rattle.std.specs.List.{list_any, flat_map};
+ghost use Rattle.std.specs.List.{list_any};
 ghost use Rattle.gm_geom.specs.Geometry.{joined};
 ghost use Rattle.gm_shapes.specs.Segment.{do_meet};
 ghost use Rattle.gm_shapes.specs.Edge.{edges_from, edges_between, edges_between_all};

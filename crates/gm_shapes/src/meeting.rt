@@ -54,10 +54,8 @@ pub fn has_area(geometry: &Geometry) -> bool
     match geometry {
         Geometry::Area(_) => true,
         Geometry::ManyAreas(areas) => !areas.is_empty(),
-        Geometry::Point(_) => false,
-        Geometry::Line(_) => false,
-        Geometry::ManyPoints(_) => false,
-        Geometry::ManyLines(_) => false,
+        Geometry::Point(_) | Geometry::Line(_) | Geometry::ManyPoints(_) | Geometry::ManyLines(_) =>
+            false,
     }
 }
 
@@ -69,10 +67,8 @@ pub fn within(p: Point, area: &Geometry) -> bool
     match area {
         Geometry::Area(rings) => is_inside(p, rings),
         Geometry::ManyAreas(areas) => is_inside_one(p, areas),
-        Geometry::Point(_) => false,
-        Geometry::Line(_) => false,
-        Geometry::ManyPoints(_) => false,
-        Geometry::ManyLines(_) => false,
+        Geometry::Point(_) | Geometry::Line(_) | Geometry::ManyPoints(_) | Geometry::ManyLines(_) =>
+            false,
     }
 }
 

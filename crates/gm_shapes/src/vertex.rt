@@ -81,10 +81,8 @@ pub(crate) fn is_in_any(p: Point, geometry: &Geometry) -> bool
     match geometry {
         Geometry::Area(rings) => in_area(p, rings),
         Geometry::ManyAreas(areas) => is_in_one(p, areas),
-        Geometry::Point(_) => false,
-        Geometry::Line(_) => false,
-        Geometry::ManyPoints(_) => false,
-        Geometry::ManyLines(_) => false,
+        Geometry::Point(_) | Geometry::Line(_) | Geometry::ManyPoints(_) | Geometry::ManyLines(_) =>
+            false,
     }
 }
 

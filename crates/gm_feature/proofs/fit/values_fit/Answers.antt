@@ -8,14 +8,14 @@ returns-then-attributes-values c =
 
 pub returns-then-not-value_fits : goal.returns-then-not-value_fits
 returns-then-not-value_fits c =
-    fails_at c.args.attributes.now c.args.values.now c.values.attribute
-    c.index-attributes-attribute.result c.index-values-attribute.result
-    (omega arith) (omega arith) c.index-values-attribute.is
+    fails_at c.args.attributes.now c.args.values.now c.values.number
+    c.index-attributes-number.result c.index-values-number.result
+    (omega arith) (omega arith) c.index-values-number.is
     (sym c.value_fits.ensures ∙ c.if-not-value_fits.true) c.values.invariant
 
 pub values-preserved : goal.values-preserved
 values-preserved c =
-    goes_on c.args.attributes.now c.args.values.now c.values.attribute
-    c.index-attributes-attribute.result c.index-values-attribute.result
-    (omega arith) (omega arith) c.index-values-attribute.is
+    goes_on c.args.attributes.now c.args.values.now c.values.number
+    c.index-attributes-number.result c.index-values-number.result
+    (omega arith) (omega arith) c.index-values-number.is
     (sym c.value_fits.ensures ∙ c.if-not-value_fits.false) c.values.invariant

@@ -18,11 +18,11 @@ returns-in-empty c =
     λ shape x e. absurd
     (no_geometry shape c.args.bytes.now x (omega (arith, c.in-empty.len_below)) e)
 
-pub returns-then-tag-eq1 : goal.returns-then-tag-eq1
-returns-then-tag-eq1 c = λ shape x e.
+pub returns-then-tag-eq-POINT_TAG : goal.returns-then-tag-eq-POINT_TAG
+returns-then-tag-eq-POINT_TAG c = λ shape x e.
     let bytes = c.args.bytes.now in
     let body = tagged_body shape bytes x (omega (arith, c.in-len1-up.len_at_least)) e in
-    let is = body_1 (get_or bytes 0 0) (tail_of bytes) c.if-tag-eq1.true in
+    let is = body_1 (get_or bytes 0 0) (tail_of bytes) c.if-tag-eq-POINT_TAG.true in
     let same =
     made_is (λ p. geo.Point p) (point_from (tail_of bytes)) c.point_at.result.0
     (λ y f. (c.point_at.ensures y f).0) x (sym is ∙ body.0) in
@@ -30,8 +30,8 @@ returns-then-tag-eq1 c = λ shape x e.
     (both_of (has_shape shape x.0) (is_none (fault_of x.0)) body.1).1 in
     (ap (λ (g : Geometry). fault_of g) (sym same) ∙ fine, ap (λ (g : Geometry). value.Geo g) same)
 
-pub returns-else-tag-eq1 : goal.returns-else-tag-eq1
-returns-else-tag-eq1 c = λ shape x e.
+pub returns-else-tag-eq-POINT_TAG : goal.returns-else-tag-eq-POINT_TAG
+returns-else-tag-eq-POINT_TAG c = λ shape x e.
     let bytes = c.args.bytes.now in
     let body = tagged_body shape bytes x (omega (arith, c.in-len1-up.len_at_least)) e in
     let span = c.span_at-extent.ensures x body.0 in
@@ -39,5 +39,5 @@ returns-else-tag-eq1 c = λ shape x e.
     let fine = none_is (fault_of x.0)
     (both_of (has_shape shape x.0) (is_none (fault_of x.0)) body.1).1 in
     let many = not_point x.0
-    (λ one. c.if-tag-eq1.false (first_byte bytes x.1 x.0 taken.parts ∙ one)) in
+    (λ one. c.if-tag-eq-POINT_TAG.false (first_byte bytes x.1 x.0 taken.parts ∙ one)) in
     c.stored_lists.ensures x.0 x.1 taken.parts (ap length span.1) fine many span.0
