@@ -13,6 +13,7 @@ use Rattle.gm_ecql.specs.Outcome.{outcome_by, KeepsLimits}
 use Rattle.gm_ecql.specs.Token.{Seen, unspaced}
 use Rattle.gm_ecql.proofs.Lists.{one_list}
 use Rattle.gm_ecql.proofs.Outcomes.{tokens_sound, tokens_complete, none_spelled}
+use Rattle.gm_ecql.proofs.Suiting.{no_faults}
 
 pub same_err : {A : Type 0} (e f : FilterFault)
     → ◌≡◌ {A = Result A FilterFault} (Err e) (Err f) → e ≡ f
@@ -25,10 +26,6 @@ no_ok x e h = absurd (cc)
 pub no_err : {A P : Type 0} (x : A) (e : FilterFault)
     → ◌≡◌ {A = Result A FilterFault} (Err e) (Ok x) → P
 no_err x e h = absurd (cc)
-
-no_faults : (f : NameFaults) → f.unknown ≡ None → f.bad ≡ None → f ≡ faultless
-no_faults f u b =
-    ap (λ z. record { unknown = z; bad = f.bad }) u ∙ ap (λ z. record { unknown = None; bad = z }) b
 
 module _ {J A : Type 0} (parsed : List Seen → Option J) (faults : J → NameFaults) (meaning : J → A)
     (IsOf : List (Bool × Seen) → J → Type 0)

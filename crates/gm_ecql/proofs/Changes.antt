@@ -15,7 +15,8 @@ use Rattle.gm_ecql.specs.Outcome.{MayHold}
 use Rattle.gm_ecql.specs.Token.{Seen, unspaced}
 use Rattle.gm_ecql.proofs.Answering.{fault_is, ok_is, only_ok, keeps_limits}
 use Rattle.gm_ecql.proofs.Assigned.{change_holds}
-use Rattle.gm_ecql.proofs.Documents.{change_sound, change_complete, change_suits, spelled_utf8}
+use Rattle.gm_ecql.proofs.ChangesRead.{change_sound, change_complete, change_suits}
+use Rattle.gm_ecql.proofs.Documents.{spelled_utf8}
 
 of_document : (s : Specification) (ts : List (Bool × Seen)) (c : JudgedChange)
     → are_numbers_apart ts ≡ true → change_document s (unspaced ts) ≡ Some c → IsChangeOf s ts c

@@ -1,26 +1,17 @@
--- What the reader cites of documents: what is read is spelled so, what is spelled is read, and
--- without a fault it suits.
+-- What is spelled has its texts in UTF-8, and what is read of it without a fault suits.
 use Rattle.std.proofs.Common.{◌≡◌, ℕ, Bool, true, ◌&&◌, List, [], ◌∷◌, Some, refl, ◌∙◌, ap}
 use Rattle.std.proofs.lemmas.Str.{is_utf8-from_IsUtf8}
 use Rattle.gm_types.specs.Specification.{Specification}
 use Rattle.gm_filter.specs.Suitability.{Suits}
-use Rattle.gm_ecql.specs.Change.{JudgedChange, SpellsChangeJudged, change_document}
-use Rattle.gm_ecql.specs.Grammar.{SpellsJudged}
 use Rattle.gm_ecql.specs.Judging.{Judged, faultless}
 use Rattle.gm_ecql.specs.Parser.{document}
 use Rattle.gm_ecql.specs.Token.{Seen, a_keyword, a_name, a_text, an_instant, a_number, a_symbol}
 use Rattle.gm_ecql.specs.Token.{IsPiece, Spells, SpellsTokens, unspaced}
-use Rattle.gm_ecql.proofs.ChangesRead as changes
-use Rattle.gm_ecql.proofs.GrammarFound as found
-use Rattle.gm_ecql.proofs.GrammarSound as sound
-use Rattle.gm_ecql.proofs.Suiting as suiting
+use Rattle.gm_ecql.proofs.GrammarSound.{document_sound}
+use Rattle.gm_ecql.proofs.Suiting.{has_utf8, are_utf8, spelled_suits}
 use Rattle.gm_ecql.proofs.Undoubling.{plain_utf8}
 
--- each text is UTF-8
-abbrev pub are_utf8 : List Seen → Bool
-are_utf8 ts = suiting.are_utf8 ts
-
-piece_utf8 : (t : Seen) (piece rest : List ℕ) → IsPiece piece t rest → suiting.has_utf8 t ≡ true
+piece_utf8 : (t : Seen) (piece rest : List ℕ) → IsPiece piece t rest → has_utf8 t ≡ true
 piece_utf8 (a_keyword k) piece rest p = refl
 piece_utf8 (a_name bytes) piece rest p = refl
 piece_utf8 (a_text bytes) piece rest p = is_utf8-from_IsUtf8 bytes (plain_utf8 bytes p.utf8)
@@ -29,36 +20,16 @@ piece_utf8 (a_number bytes) piece rest p = refl
 piece_utf8 (a_symbol s) piece rest p = refl
 
 pieces_utf8 : (bytes : List ℕ) (ts : List (Bool × Seen)) → Spells bytes ts
-    → suiting.are_utf8 (unspaced ts) ≡ true
+    → are_utf8 (unspaced ts) ≡ true
 pieces_utf8 bytes [] s = refl
 pieces_utf8 bytes (t ∷ ts) s =
-    ap (λ x. x && suiting.are_utf8 (unspaced ts)) (piece_utf8 t.1 s.1.piece s.0 s.1.spelled)
+    ap (λ x. x && are_utf8 (unspaced ts)) (piece_utf8 t.1 s.1.piece s.0 s.1.spelled)
     ∙ pieces_utf8 s.0 ts s.2
 
 pub spelled_utf8 : (text : List ℕ) (ts : List (Bool × Seen)) → SpellsTokens text ts
     → are_utf8 (unspaced ts) ≡ true
 spelled_utf8 text ts s = pieces_utf8 text ts s.spelled
 
-pub document_sound : (s : Specification) (ts : List Seen) (j : Judged) → document s ts ≡ Some j
-    → SpellsJudged s ts j
-document_sound s ts j h = sound.document_sound s ts j h
-
-pub document_complete : (s : Specification) (ts : List Seen) (j : Judged) → SpellsJudged s ts j
-    → document s ts ≡ Some j
-document_complete s ts j h = found.document_complete s ts j h
-
 pub document_suits : (s : Specification) (ts : List Seen) (j : Judged) → are_utf8 ts ≡ true
     → document s ts ≡ Some j → j.faults ≡ faultless → Suits s j.meaning
-document_suits s ts j u h e = suiting.spelled_suits s ts j u (sound.document_sound s ts j h) e
-
-pub change_sound : (s : Specification) (ts : List Seen) (c : JudgedChange)
-    → change_document s ts ≡ Some c → SpellsChangeJudged s ts c
-change_sound s ts c h = changes.change_sound s ts c h
-
-pub change_complete : (s : Specification) (ts : List Seen) (c : JudgedChange)
-    → SpellsChangeJudged s ts c → change_document s ts ≡ Some c
-change_complete s ts c h = changes.change_complete s ts c h
-
-pub change_suits : (s : Specification) (ts : List Seen) (c : JudgedChange) → are_utf8 ts ≡ true
-    → change_document s ts ≡ Some c → c.faults ≡ faultless → Suits s c.meaning
-change_suits s ts c u h e = changes.change_suits s ts c u h e
+document_suits s ts j u h e = spelled_suits s ts j u (document_sound s ts j h) e

@@ -14,8 +14,9 @@ use Rattle.gm_ecql.specs.Outcome.{filter_outcome, KeepsLimits, Answers}
 use Rattle.gm_ecql.specs.Parser.{document}
 use Rattle.gm_ecql.specs.Token.{Seen, unspaced}
 use Rattle.gm_ecql.proofs.Answering.{fault_is, ok_is, only_ok, keeps_limits}
-use Rattle.gm_ecql.proofs.Documents.{document_sound, document_complete, document_suits}
-use Rattle.gm_ecql.proofs.Documents.{spelled_utf8}
+use Rattle.gm_ecql.proofs.Documents.{document_suits, spelled_utf8}
+use Rattle.gm_ecql.proofs.GrammarFound.{document_complete}
+use Rattle.gm_ecql.proofs.GrammarSound.{document_sound}
 
 of_document : (s : Specification) (ts : List (Bool × Seen)) (j : Judged)
     → are_numbers_apart ts ≡ true → document s (unspaced ts) ≡ Some j → IsFilterOf s ts j

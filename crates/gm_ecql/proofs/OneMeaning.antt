@@ -9,8 +9,9 @@ use Rattle.gm_ecql.specs.Change.{change_document}
 use Rattle.gm_ecql.specs.Fault.{SpellsFilter, SpellsChange}
 use Rattle.gm_ecql.specs.Parser.{document}
 use Rattle.gm_ecql.specs.Token.{unspaced}
-use Rattle.gm_ecql.proofs.Documents.{document_complete, change_complete, document_suits}
-use Rattle.gm_ecql.proofs.Documents.{spelled_utf8}
+use Rattle.gm_ecql.proofs.ChangesRead.{change_complete}
+use Rattle.gm_ecql.proofs.Documents.{document_suits, spelled_utf8}
+use Rattle.gm_ecql.proofs.GrammarFound.{document_complete}
 use Rattle.gm_ecql.proofs.Lists.{one_list}
 
 pub one_tree : (s : Specification) (text : List ℕ) (t u : Tree) → SpellsFilter s text t

@@ -1,10 +1,11 @@
 -- The tokens of a printed geometry: they are one piece, and stand for the geometry.
 use Rattle.std.proofs.Common.{◌≡◌, ℕ, ℤ, pos, negsuc, suc, ◌+◌, ◌<◌, ◌^◌, Bool}
 use Rattle.std.proofs.Common.{true, false, not, ◌==◌, cond, List, [], ◌∷◌, ◌++◌, length}
-use Rattle.std.proofs.Common.{take, drop, Some, None, option_map, refl, sym, ◌∙◌, ap, subst}
+use Rattle.std.proofs.Common.{drop, Some, None, option_map, refl, sym, ◌∙◌, ap, subst}
 use Rattle.std.proofs.Common.{arith, append_assoc, append-nil, length-append, codes, if◌then◌else◌}
-use Rattle.std.proofs.Common.{leb-true, ltb-true, lit<}
+use Rattle.std.proofs.Common.{leb-true, ltb-true, lit<, take_all, le_refl}
 use Rattle.std.specs.List.{list_all, AllByRecursion}
+use Rattle.std.proofs.lemmas.List.{drop_all}
 use Rattle.std.proofs.lemmas.List.Concat.{flat_map-append}
 use Rattle.std.proofs.lemmas.List.Folds.{list_all-append}
 use Rattle.std.proofs.lemmas.Bool.Decides.{nat_tests}
@@ -278,21 +279,14 @@ module _ {A : Type 0} (text : A → List ℕ) (tokens : A → List Seen) where
       ap (text_behind false) (sym (append-nil (list_tokens tokens xs))) ∙ list_back xs [] p
       ∙ append-nil (list_text text xs)
 
-take_all : (ts : List Seen) → take (length ts) ts ≡ ts
-take_all [] = refl
-take_all (t ∷ ts) = ap (λ z. t ∷ z) (take_all ts)
-
-drop_all : (ts : List Seen) → drop (length ts) ts ≡ []
-drop_all [] = refl
-drop_all (t ∷ ts) = drop_all ts
-
 one_piece : (w : Keyword) (ts : List Seen) → begins_geometry w ≡ true
     → group_count 0 ts ≡ Some (length ts) → IsGeometryPiece (a_keyword w ∷ ts)
 one_piece w ts b c =
     ap (λ x. cond x (cut_behind (group_count 0 ts) (a_keyword w) ts) None) b
     ∙ ap (λ o. cut_behind o (a_keyword w) ts) c
-    ∙ ap (λ z. Some (a_keyword w ∷ z, drop (length ts) ts)) (take_all ts)
-    ∙ ap (λ z. Some (a_keyword w ∷ ts, z)) (drop_all ts)
+    ∙ ap (λ z. Some (a_keyword w ∷ z, drop (length ts) ts))
+    (take_all (length ts) ts (le_refl (length ts)))
+    ∙ ap (λ z. Some (a_keyword w ∷ ts, z)) (drop_all (length ts) ts (le_refl (length ts)))
 
 -- Members of each depth.
 module _ (numbers : (z : ℤ) → SFits w32 z → Printed (fixed_text z) (a_number (fixed_text z))) where

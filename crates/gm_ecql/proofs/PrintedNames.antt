@@ -1,12 +1,11 @@
 -- The printed name of an attribute is a piece of its name, and the name leads back to the
 -- attribute.
-use Rattle.std.proofs.Common.{◌≡◌, ℕ, zero, suc, ◌+◌, ◌<◌, true, false, not, ◌&&◌}
+use Rattle.std.proofs.Common.{◌≡◌, ℕ, zero, suc, ◌+◌, true, false, not, ◌&&◌}
 use Rattle.std.proofs.Common.{cond, List, [], ◌∷◌, length, map, Some, None, option_map}
 use Rattle.std.proofs.Common.{refl, sym, ◌∙◌, ap, subst, arith}
-use Rattle.std.specs.Prelude.{slice_get, nat_lt, slice_index}
+use Rattle.std.specs.Prelude.{slice_get, nat_lt}
 use Rattle.std.specs.List.{list_all, list_any, prefix_len}
 use Rattle.std.proofs.lemmas.Bool.{lt-ltb, or_parts}
-use Rattle.std.proofs.lemmas.Bool.Decides.{nat_tests}
 use Rattle.std.proofs.lemmas.Option.{slice_get-map, slice_get_within}
 use Rattle.std.proofs.lemmas.Str.{IsUtf8-from_ascii}
 use Rattle.gm_base.proofs.Options.{same_some}
@@ -21,7 +20,8 @@ use Rattle.gm_types.specs.Attribute.{is_described}
 use Rattle.gm_types.specs.Specification.{Specification, place_of_name, kind_at, names_of}
 use Rattle.gm_types.specs.Words.{same_text, are_distinct, is_name}
 use Rattle.gm_ecql.specs.Printer.{name_at, name_if, name_text}
-use Rattle.gm_ecql.specs.Token.{a_name, is_word_byte}
+use Rattle.gm_ecql.specs.Token.{a_name}
+use Rattle.gm_ecql.proofs.Complete.{word_ascii}
 use Rattle.gm_ecql.proofs.PrintedWords.{name_bytes, name_piece}
 use Rattle.gm_ecql.proofs.Sequences.{Printed}
 use Rattle.gm_ecql.proofs.TestFirst.{mapped}
@@ -84,15 +84,6 @@ attribute_passes (b ∷ bs) zero a all is =
 attribute_passes (b ∷ bs) (suc place) a all is =
     attribute_passes bs place a (both_of (is_attribute b) (list_all is_attribute bs) all).1 is
 
-word_ascii : (b : ℕ) → is_word_byte b ≡ true → b < 128
-word_ascii b e = grind (arith, nat_tests)
-
-words_ascii : (bs : List ℕ) → list_all is_word_byte bs ≡ true → (i : ℕ) → slice_index bs i < 128
-words_ascii [] e i = omega arith
-words_ascii (b ∷ bs) e zero = word_ascii b (both_of (is_word_byte b) (list_all is_word_byte bs) e).0
-words_ascii (b ∷ bs) e (suc i) =
-    words_ascii bs (both_of (is_word_byte b) (list_all is_word_byte bs) e).1 i
-
 -- there is such an attribute
 pub record Named (s : Specification) (place : ℕ) (k : Kind) : Type 0 where
   pub kind : kind_at s place ≡ Some k
@@ -114,6 +105,6 @@ named s place k t is =
     record {
       kind = is;
       printed = subst (λ n. Printed (name_text n) (a_name n)) (sym name)
-          (name_piece a.name bytes (IsUtf8-from_ascii a.name (words_ascii a.name bytes.all)));
+          (name_piece a.name bytes (IsUtf8-from_ascii a.name (word_ascii a.name bytes.all)));
       back = ap (place_of_name s) name ∙ named_place s place a t.valid.names m.1;
     }

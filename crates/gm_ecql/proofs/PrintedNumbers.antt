@@ -12,6 +12,7 @@ use Rattle.gm_geom.specs.Number.{number_of}
 use Rattle.gm_ecql.specs.Token.{a_number, is_number_start, Starts, IsPiece}
 use Rattle.gm_ecql.proofs.Dates.{date_shape, date_first}
 use Rattle.gm_ecql.proofs.Lexemes.{Ends, is_end, ends_number}
+
 abbrev pub is_no_dash : ℕ → Bool
 is_no_dash b = not (b == 45)
 

@@ -57,8 +57,8 @@ first_none : (x y : Option (List ℕ)) → first_name x y ≡ None → (x ≡ No
 first_none None y h = (refl, h)
 first_none (Some n) y h = absurd (cc)
 
-same_faults : (f : NameFaults) → f.unknown ≡ None → f.bad ≡ None → f ≡ faultless
-same_faults f e g =
+pub no_faults : (f : NameFaults) → f.unknown ≡ None → f.bad ≡ None → f ≡ faultless
+no_faults f e g =
     ap (λ u. record { unknown = u; bad = f.bad }) e ∙ ap (λ b. record { unknown = None; bad = b }) g
 
 pub first_faultless : (a b : NameFaults) → first_faults a b ≡ faultless
@@ -66,7 +66,7 @@ pub first_faultless : (a b : NameFaults) → first_faults a b ≡ faultless
 first_faultless a b h =
     let u = first_none a.unknown b.unknown (ap (λ f. f.unknown) h) in
     let d = first_none a.bad b.bad (ap (λ f. f.bad) h) in
-    (same_faults a u.0 d.0, same_faults b u.1 d.1)
+    (no_faults a u.0 d.0, no_faults b u.1 d.1)
 
 some_name : {P : Type 0} (name : List ℕ) → Some name ≡ None → P
 some_name name e = absurd (cc)

@@ -1,7 +1,8 @@
 -- A test that is read is written there.
 use Rattle.std.proofs.Common.{◌≡◌, ℕ, zero, suc, Bool, true, false, ◌==◌, cond, List, [], ◌∷◌, ◌++◌}
 use Rattle.std.proofs.Common.{length, take, drop, Option, Some, None, option_map, refl, sym, ◌∙◌}
-use Rattle.std.proofs.Common.{ap, subst, append_assoc, inl, inr}
+use Rattle.std.proofs.Common.{ap, subst, append_assoc, inl, inr, take_all, le_refl}
+use Rattle.std.proofs.lemmas.List.{drop_all}
 use Rattle.gm_base.proofs.Options.{same_some, no_some}
 use Rattle.gm_filter.specs.declared.filter.Op.{Op}
 use Rattle.gm_ecql.specs.declared.keyword.Keyword.TheVariants as keyword
@@ -285,14 +286,6 @@ group_cut depth n (t ∷ ts) h = elim (chosen (depth_behind depth t == 0) _ _ _ 
       )
 ]
 
-take_length : (ts : List Seen) → take (length ts) ts ≡ ts
-take_length [] = refl
-take_length (t ∷ ts) = ap (λ z. t ∷ z) (take_length ts)
-
-drop_length : (ts : List Seen) → drop (length ts) ts ≡ []
-drop_length [] = refl
-drop_length (t ∷ ts) = drop_length ts
-
 cut_join : (n : ℕ) (ts : List Seen) → ts ≡ take n ts ++ drop n ts
 cut_join zero ts = refl
 cut_join (suc n) [] = refl
@@ -316,8 +309,9 @@ piece_there (t ∷ ts) r h = elim (chosen (is_geometry_word t) _ _ _ h) [
         let whole : ◌≡◌ {A = List Seen × List Seen} (t ∷ take n front, drop n front)
         (t ∷ front, []) =
         ap (λ k. (t ∷ take k front, drop k front)) (sym c.1)
-        ∙ ap (λ z. (t ∷ z, drop (length front) front)) (take_length front)
-        ∙ ap (λ z. (t ∷ front, z)) (drop_length front) in
+        ∙ ap (λ z. (t ∷ z, drop (length front) front))
+        (take_all (length front) front (le_refl (length front)))
+        ∙ ap (λ z. (t ∷ front, z)) (drop_all (length front) front (le_refl (length front))) in
         subst (λ p. IsGeometryPiece p.0 × (t ∷ ts ≡ p.0 ++ p.1))
         (same_some (t ∷ front, drop n ts) r g) (
           ap (λ x. cond x (cut_behind (group_count 0 front) t front) None) w

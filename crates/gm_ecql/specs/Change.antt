@@ -24,7 +24,7 @@ use Rattle.gm_ecql.specs.Grammar.{SpellsJudged, literal_token, IsGeometryPiece}
 use Rattle.gm_ecql.specs.Judging.{NameFaults, Judged, faultless, first_faults, faults_seen}
 use Rattle.gm_ecql.specs.Judging.{literal_of}
 use Rattle.gm_ecql.specs.Parser.{document}
-use Rattle.gm_ecql.specs.Reader.{Reader, or_else, after_keyword, constant_at, name_at}
+use Rattle.gm_ecql.specs.Reader.{Reader, ◌>>=◌, or_else, after_keyword, constant_at, name_at}
 use Rattle.gm_ecql.specs.Test.{Written, constant_seen}
 use Rattle.gm_ecql.specs.Token.{Seen, a_keyword, a_name, seen_all}
 

@@ -59,10 +59,7 @@ fn first_name<'a>(earlier: Option<&'a str>, later: Option<&'a str>) -> Option<&'
         ≡ spec.first_name (option_map (λ n. n.now) earlier.entry)
         (option_map (λ n. n.now) later.entry) }
 {
-    match earlier {
-        Some(name) => Some(name),
-        None => later,
-    }
+    earlier.or(later)
 }
 
 fn sound<'a>(filter: Filter) -> Found<'a>

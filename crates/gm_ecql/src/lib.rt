@@ -1,5 +1,6 @@
 //! ECQL, the text language of filters and of changes: read, with its faults in their order, and
-//! printed.
+//! printed. It is a part of GeoTools' Extended Common Query Language, which comes from the CQL of
+//! the OGC's Catalogue Service; docs/LANGUAGE.md says which.
 #![tactic(auto)]
 
 mod bytes;

@@ -53,10 +53,8 @@ fn instant_at(bytes: &[u8]) -> Option<(Token<'_>, &[u8])>
     ensures { option_map (λ x. (seen x.0, x.1.now)) result ≡ spec.instant_at bytes.now }
 {
     let (front, rest) = bytes.split_at(instant_count(bytes));
-    match read_instant(front) {
-        None => None,
-        Some(at) => Some((Token::Instant(at), rest)),
-    }
+    let at = read_instant(front)?;
+    Some((Token::Instant(at), rest))
 }
 
 fn number_at(bytes: &[u8]) -> Option<(Token<'_>, &[u8])>

@@ -19,6 +19,13 @@ use gm_filter::Filter;
 use gm_types::FeatureType;
 use std::alloc::Global;
 
+// Quoted words stand for themselves, and braces for any number of repeats:
+//
+// filter = term { "OR" term }
+// term   = factor { "AND" factor }
+// factor = "NOT" factor | "(" filter ")" | test
+
+// The members joined by AND, or the only one.
 fn conjunction(mut members: Vec<Filter>) -> Filter
     requires { 1 ≤ length members.items }
     ensures { tree result ≡ group all (map tree members.items) }
@@ -32,6 +39,7 @@ fn conjunction(mut members: Vec<Filter>) -> Filter
     }
 }
 
+// The members joined by OR, or the only one.
 fn disjunction(mut members: Vec<Filter>) -> Filter
     requires { 1 ≤ length members.items }
     ensures { tree result ≡ group any (map tree members.items) }

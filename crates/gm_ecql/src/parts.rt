@@ -9,6 +9,7 @@ use crate::test::Constant;
 use crate::token::{Spaced, Symbol, Token};
 use gm_calendar::Instant;
 
+/// The first token, and what follows it.
 pub fn split<'a>(tokens: &'a [Spaced<'a>]) -> Option<(&'a Token<'a>, &'a [Spaced<'a>])>
     ensures { MatchOption result (tokens.now ≡ [])
         (λ x. seen_all tokens.now ≡ seen x.0.now ∷ seen_all x.1.now) }
@@ -19,6 +20,7 @@ pub fn split<'a>(tokens: &'a [Spaced<'a>]) -> Option<(&'a Token<'a>, &'a [Spaced
     }
 }
 
+/// What follows the keyword, where it stands first.
 pub fn after_keyword<'a>(keyword: Keyword, tokens: &'a [Spaced<'a>]) -> Option<&'a [Spaced<'a>]>
     ensures value { option_map (λ r. seen_all r.now) result
         ≡ spec.after_keyword keyword (seen_all tokens.now) }
@@ -35,6 +37,7 @@ pub fn after_keyword<'a>(keyword: Keyword, tokens: &'a [Spaced<'a>]) -> Option<&
     }
 }
 
+/// What follows the symbol, where it stands first.
 pub fn after_symbol<'a>(symbol: Symbol, tokens: &'a [Spaced<'a>]) -> Option<&'a [Spaced<'a>]>
     ensures value { option_map (λ r. seen_all r.now) result
         ≡ spec.after_symbol symbol (seen_all tokens.now) }
@@ -51,6 +54,7 @@ pub fn after_symbol<'a>(symbol: Symbol, tokens: &'a [Spaced<'a>]) -> Option<&'a 
     }
 }
 
+/// The symbol at the front, and what follows it.
 pub fn symbol_at<'a>(tokens: &'a [Spaced<'a>]) -> Option<(Symbol, &'a [Spaced<'a>])>
     ensures { option_map (λ x. (x.0, seen_all x.1.now)) result
         ≡ spec.symbol_at (seen_all tokens.now) }
@@ -61,6 +65,7 @@ pub fn symbol_at<'a>(tokens: &'a [Spaced<'a>]) -> Option<(Symbol, &'a [Spaced<'a
     }
 }
 
+/// The name at the front, without its quotes, and what follows it.
 pub fn name_at<'a>(tokens: &'a [Spaced<'a>]) -> Option<(&'a str, &'a [Spaced<'a>])>
     ensures { option_map (λ x. (x.0.now, seen_all x.1.now)) result
         ≡ spec.name_at (seen_all tokens.now) }
@@ -71,6 +76,7 @@ pub fn name_at<'a>(tokens: &'a [Spaced<'a>]) -> Option<(&'a str, &'a [Spaced<'a>
     }
 }
 
+/// The number at the front, as it is spelled, and what follows it.
 pub fn number_at<'a>(tokens: &'a [Spaced<'a>]) -> Option<(&'a str, &'a [Spaced<'a>])>
     ensures { option_map (λ x. (x.0.now, seen_all x.1.now)) result
         ≡ spec.number_at (seen_all tokens.now) }
@@ -81,6 +87,7 @@ pub fn number_at<'a>(tokens: &'a [Spaced<'a>]) -> Option<(&'a str, &'a [Spaced<'
     }
 }
 
+/// The instant at the front, and what follows it.
 pub fn instant_at<'a>(tokens: &'a [Spaced<'a>]) -> Option<(&'a Instant, &'a [Spaced<'a>])>
     ensures { option_map (λ x. (x.0.now, seen_all x.1.now)) result
         ≡ spec.instant_at (seen_all tokens.now) }
@@ -91,7 +98,7 @@ pub fn instant_at<'a>(tokens: &'a [Spaced<'a>]) -> Option<(&'a Instant, &'a [Spa
     }
 }
 
-/// A text with the quotes inside it twice.
+/// The text at the front, with the quotes inside it twice, and what follows it.
 pub fn text_at<'a>(tokens: &'a [Spaced<'a>]) -> Option<(&'a str, &'a [Spaced<'a>])>
     ensures { option_map (λ x. (undoubled x.0.now, seen_all x.1.now)) result
         ≡ spec.text_at (seen_all tokens.now) }
@@ -113,7 +120,7 @@ fn truth_at<'a>(tokens: &'a [Spaced<'a>]) -> Option<(bool, &'a [Spaced<'a>])>
     Some((false, rest))
 }
 
-/// A literal.
+/// The literal at the front, and what follows it.
 pub fn constant_at<'a>(tokens: &'a [Spaced<'a>]) -> Option<(Constant<'a>, &'a [Spaced<'a>])>
     ensures { option_map (λ x. (constant_seen x.0, seen_all x.1.now)) result
         ≡ spec.constant_at (seen_all tokens.now) }
@@ -131,7 +138,7 @@ pub fn constant_at<'a>(tokens: &'a [Spaced<'a>]) -> Option<(Constant<'a>, &'a [S
     Some((Constant::Truth(truth), rest))
 }
 
-/// True where a comma stands first, false where a closing bracket does.
+/// True where a comma stands first, false where a closing bracket does, and what follows it.
 pub fn separator_at<'a>(tokens: &'a [Spaced<'a>]) -> Option<(bool, &'a [Spaced<'a>])>
     ensures { option_map (λ x. (x.0, seen_all x.1.now)) result
         ≡ spec.separator_at (seen_all tokens.now) }

@@ -3,7 +3,6 @@ ghost use Rattle.std.specs.Prelude.{◌≡◌, ◌++◌, ◌∷◌, ℕ, List, m
 ghost use Rattle.std.specs.Prelude.{slice_get, encode_utf8_all, IfOk, OnOk};
 ghost use Rattle.std.specs.String.{string_bytes};
 ghost use Rattle.std.specs.Fmt.{signed_decimal};
-ghost use Rattle.gm_calendar.specs.Spelling.{instant_text};
 ghost use Rattle.gm_filter.specs.Tree.{tree, trees_of};
 ghost use Rattle.gm_filter.specs.Tree.{compare, between, like, one_of, is_null};
 ghost use Rattle.gm_types.specs.Specification.{names_of};
@@ -12,7 +11,7 @@ ghost use Rattle.gm_ecql.specs.Token.{doubled};
 
 use crate::keyword::keyword_of;
 use gm_base::{NoMemory, Text};
-use gm_calendar::{Instant, print_instant};
+use gm_calendar::{Instant, append_instant};
 use gm_filter::{Filter, Literal, Op};
 use gm_geom::{Box2, Geometry, Point, append_fixed};
 use gm_types::FeatureType;
@@ -25,48 +24,42 @@ pub fn print(alloc: Global, of: &FeatureType, filter: &Filter) -> Result<Text, N
 {
     let mut out = String::new(alloc);
     match filter {
-        Filter::And(members) => append_members(alloc, &mut out, of, " AND ", members)?,
-        Filter::Or(members) => append_members(alloc, &mut out, of, " OR ", members)?,
-        _ => append_inner(alloc, &mut out, of, filter)?,
+        Filter::And(members) => append_members(&mut out, of, " AND ", members)?,
+        Filter::Or(members) => append_members(&mut out, of, " OR ", members)?,
+        _ => append_inner(&mut out, of, filter)?,
     }
     Ok(Text::from_string(out))
 }
 
 // A filter inside another.
 #[cycle(printer)]
-fn append_inner(
-    alloc: Global,
-    out: &mut String,
-    of: &FeatureType,
-    filter: &Filter,
-) -> Result<(), NoMemory>
+fn append_inner(out: &mut String, of: &FeatureType, filter: &Filter) -> Result<(), NoMemory>
     ensures { OnOk result (string_bytes out.new
         ≡ string_bytes out.old ++ spec.inner of.now (tree filter.now)) }
 {
     match filter {
         Filter::Not(negated) => {
             out.push_str("NOT ")?;
-            append_inner(alloc, out, of, negated)
+            append_inner(out, of, negated)
         }
         Filter::And(members) => {
             out.push_str("(")?;
-            append_members(alloc, out, of, " AND ", members)?;
+            append_members(out, of, " AND ", members)?;
             out.push_str(")")?;
             Ok(())
         }
         Filter::Or(members) => {
             out.push_str("(")?;
-            append_members(alloc, out, of, " OR ", members)?;
+            append_members(out, of, " OR ", members)?;
             out.push_str(")")?;
             Ok(())
         }
-        _ => append_test(alloc, out, of, filter),
+        _ => append_test(out, of, filter),
     }
 }
 
 #[cycle(printer)]
 fn append_members(
-    alloc: Global,
     out: &mut String,
     of: &FeatureType,
     separator: &str,
@@ -81,18 +74,13 @@ fn append_members(
             out.push_str(separator)?;
         }
         first = false;
-        append_inner(alloc, out, of, member)?;
+        append_inner(out, of, member)?;
     }
     Ok(())
 }
 
 // A filter without members. Of one with members nothing.
-fn append_test(
-    alloc: Global,
-    out: &mut String,
-    of: &FeatureType,
-    filter: &Filter,
-) -> Result<(), NoMemory>
+fn append_test(out: &mut String, of: &FeatureType, filter: &Filter) -> Result<(), NoMemory>
     ensures { OnOk result (string_bytes out.new
         ≡ string_bytes out.old ++ spec.test_text of.now (tree filter.now)) }
 {
@@ -100,32 +88,31 @@ fn append_test(
         Filter::Include => out.push_str("INCLUDE")?,
         Filter::Exclude => out.push_str("EXCLUDE")?,
         Filter::Ids(texts) => append_ids(out, texts.as_slice())?,
-        Filter::Compare(at, op, literal) => append_compared(alloc, out, of, *at, *op, literal)?,
-        Filter::Between(at, low, high) => append_between(alloc, out, of, *at, low, high)?,
+        Filter::Compare(at, op, literal) => append_compared(out, of, *at, *op, literal)?,
+        Filter::Between(at, low, high) => append_between(out, of, *at, low, high)?,
         Filter::Like(at, pattern) => append_like(out, of, *at, pattern)?,
-        Filter::OneOf(at, literals) => append_one_of(alloc, out, of, *at, literals.as_slice())?,
+        Filter::OneOf(at, literals) => append_one_of(out, of, *at, literals.as_slice())?,
         Filter::IsNull(at) => append_null(out, of, *at)?,
         Filter::Bbox(at, area) => append_box(out, of, *at, area)?,
         Filter::Intersects(at, geometry) => {
-            append_related(alloc, out, of, "INTERSECTS(", *at, geometry)?;
+            append_related(out, of, "INTERSECTS(", *at, geometry)?;
         }
         Filter::Disjoint(at, geometry) => {
-            append_related(alloc, out, of, "DISJOINT(", *at, geometry)?;
+            append_related(out, of, "DISJOINT(", *at, geometry)?;
         }
         Filter::Within(at, geometry) => {
-            append_related(alloc, out, of, "WITHIN(", *at, geometry)?;
+            append_related(out, of, "WITHIN(", *at, geometry)?;
         }
-        Filter::During(at, low, high) => append_during(alloc, out, of, *at, *low, *high)?,
-        Filter::Before(at, end) => append_timed(alloc, out, of, *at, " BEFORE ", *end)?,
-        Filter::After(at, start) => append_timed(alloc, out, of, *at, " AFTER ", *start)?,
-        Filter::Tequals(at, instant) => append_timed(alloc, out, of, *at, " TEQUALS ", *instant)?,
+        Filter::During(at, low, high) => append_during(out, of, *at, *low, *high)?,
+        Filter::Before(at, end) => append_timed(out, of, *at, " BEFORE ", *end)?,
+        Filter::After(at, start) => append_timed(out, of, *at, " AFTER ", *start)?,
+        Filter::Tequals(at, instant) => append_timed(out, of, *at, " TEQUALS ", *instant)?,
         Filter::Not(_) | Filter::And(_) | Filter::Or(_) => {}
     }
     Ok(())
 }
 
 fn append_compared(
-    alloc: Global,
     out: &mut String,
     of: &FeatureType,
     at: u16,
@@ -137,11 +124,10 @@ fn append_compared(
 {
     append_name(out, of, at)?;
     out.push_str(op_text(op))?;
-    append_literal(alloc, out, literal)
+    append_literal(out, literal)
 }
 
 fn append_between(
-    alloc: Global,
     out: &mut String,
     of: &FeatureType,
     at: u16,
@@ -153,9 +139,9 @@ fn append_between(
 {
     append_name(out, of, at)?;
     out.push_str(" BETWEEN ")?;
-    append_literal(alloc, out, low)?;
+    append_literal(out, low)?;
     out.push_str(" AND ")?;
-    append_literal(alloc, out, high)
+    append_literal(out, high)
 }
 
 fn append_like(out: &mut String, of: &FeatureType, at: u16, pattern: &Text) -> Result<(), NoMemory>
@@ -168,7 +154,6 @@ fn append_like(out: &mut String, of: &FeatureType, at: u16, pattern: &Text) -> R
 }
 
 fn append_one_of(
-    alloc: Global,
     out: &mut String,
     of: &FeatureType,
     at: u16,
@@ -179,7 +164,7 @@ fn append_one_of(
 {
     append_name(out, of, at)?;
     out.push_str(" IN (")?;
-    append_literals(alloc, out, literals)?;
+    append_literals(out, literals)?;
     out.push_str(")")?;
     Ok(())
 }
@@ -269,14 +254,6 @@ fn append_character(out: &mut String, character: char) -> Result<(), NoMemory>
     Ok(())
 }
 
-fn append_instant(alloc: Global, out: &mut String, at: Instant) -> Result<(), NoMemory>
-    ensures { OnOk result (string_bytes out.new ≡ string_bytes out.old ++ instant_text at) }
-{
-    let text = print_instant(alloc, at)?;
-    out.push_str(text.as_str())?;
-    Ok(())
-}
-
 fn append_number(out: &mut String, number: i64) -> Result<(), NoMemory>
     ensures { OnOk result (string_bytes out.new ≡ string_bytes out.old ++ signed_decimal number) }
 {
@@ -284,14 +261,14 @@ fn append_number(out: &mut String, number: i64) -> Result<(), NoMemory>
     Ok(())
 }
 
-fn append_literal(alloc: Global, out: &mut String, literal: &Literal) -> Result<(), NoMemory>
+fn append_literal(out: &mut String, literal: &Literal) -> Result<(), NoMemory>
     ensures { OnOk result (string_bytes out.new
         ≡ string_bytes out.old ++ spec.literal_text literal.now) }
 {
     match literal {
         Literal::Number(number) => append_number(out, *number),
         Literal::Text(text) => append_text(out, text),
-        Literal::Date(at) => append_instant(alloc, out, *at),
+        Literal::Date(at) => append_instant(out, *at),
         Literal::Truth(truth) => append_truth(out, *truth),
     }
 }
@@ -307,7 +284,7 @@ fn append_truth(out: &mut String, truth: bool) -> Result<(), NoMemory>
     Ok(())
 }
 
-fn append_literals(alloc: Global, out: &mut String, literals: &[Literal]) -> Result<(), NoMemory>
+fn append_literals(out: &mut String, literals: &[Literal]) -> Result<(), NoMemory>
     ensures { OnOk result (string_bytes out.new
         ≡ string_bytes out.old ++ spec.commas spec.literal_text true literals.now) }
 {
@@ -315,7 +292,7 @@ fn append_literals(alloc: Global, out: &mut String, literals: &[Literal]) -> Res
     'literals: for literal in literals {
         append_comma(out, first)?;
         first = false;
-        append_literal(alloc, out, literal)?;
+        append_literal(out, literal)?;
     }
     Ok(())
 }
@@ -374,7 +351,6 @@ fn append_coordinate(out: &mut String, value: i32) -> Result<(), NoMemory>
 }
 
 fn append_related(
-    alloc: Global,
     out: &mut String,
     of: &FeatureType,
     word: &str,
@@ -387,14 +363,12 @@ fn append_related(
     out.push_str(word)?;
     append_name(out, of, at)?;
     out.push_str(", ")?;
-    let text = gm_wkt::print(alloc, geometry)?;
-    out.push_str(text.as_str())?;
+    gm_wkt::append(out, geometry)?;
     out.push_str(")")?;
     Ok(())
 }
 
 fn append_timed(
-    alloc: Global,
     out: &mut String,
     of: &FeatureType,
     at: u16,
@@ -406,11 +380,10 @@ fn append_timed(
 {
     append_name(out, of, at)?;
     out.push_str(word)?;
-    append_instant(alloc, out, instant)
+    append_instant(out, instant)
 }
 
 fn append_during(
-    alloc: Global,
     out: &mut String,
     of: &FeatureType,
     at: u16,
@@ -422,7 +395,7 @@ fn append_during(
 {
     append_name(out, of, at)?;
     out.push_str(" DURING ")?;
-    append_instant(alloc, out, low)?;
+    append_instant(out, low)?;
     out.push_str("/")?;
-    append_instant(alloc, out, high)
+    append_instant(out, high)
 }

@@ -41,10 +41,8 @@ pub fn name_token<'a>(name: &'a [u8], rest: &'a [u8]) -> Option<(Token<'a>, &'a 
 pub fn text_at(bytes: &[u8]) -> Option<(Token<'_>, &[u8])>
     ensures { option_map (λ x. (seen x.0, x.1.now)) result ≡ spec.text_at bytes.now }
 {
-    match text_end(bytes) {
-        None => None,
-        Some(end) => text_token(&bytes[..end], &bytes[end + 1..]),
-    }
+    let end = text_end(bytes)?;
+    text_token(&bytes[..end], &bytes[end + 1..])
 }
 
 fn text_token<'a>(text: &'a [u8], rest: &'a [u8]) -> Option<(Token<'a>, &'a [u8])>

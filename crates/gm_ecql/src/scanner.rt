@@ -40,16 +40,13 @@ fn tokens_from<'a>(alloc: Global, text: &'a [u8]) -> Result<Vec<Spaced<'a>>, Hal
         let count = blank_count(rest);
         let spaced = count > 0;
         let (_, front) = rest.split_at(count);
-        match token_at(front) {
-            None => return Err(Halt::Syntax),
-            Some((token, after)) => {
-                match found.push(Spaced { spaced, token }) {
-                    Err(_) => return Err(Halt::NoMemory),
-                    Ok(()) => {}
-                }
-                rest = after;
-            }
+        let Some((token, after)) = token_at(front) else {
+            return Err(Halt::Syntax);
+        };
+        if let Err(_) = found.push(Spaced { spaced, token }) {
+            return Err(Halt::NoMemory);
         }
+        rest = after;
     }
     Ok(found)
 }
@@ -59,24 +56,20 @@ fn tokens_from<'a>(alloc: Global, text: &'a [u8]) -> Result<Vec<Spaced<'a>>, Hal
 fn token_at(bytes: &[u8]) -> Option<(Token<'_>, &[u8])>
     ensures { option_map (λ x. (seen x.0, x.1.now)) result ≡ spec.token_at bytes.now }
 {
-    match split_byte(bytes) {
-        None => None,
-        Some((first, rest)) => {
-            if is_word_start(first) {
-                return word_at(bytes);
-            }
-            if first == b'"' {
-                return name_at(rest);
-            }
-            if first == b'\'' {
-                return text_at(rest);
-            }
-            if is_number_start(first) {
-                return numeric_at(bytes);
-            }
-            symbol_at(first, rest)
-        }
+    let (first, rest) = split_byte(bytes)?;
+    if is_word_start(first) {
+        return word_at(bytes);
     }
+    if first == b'"' {
+        return name_at(rest);
+    }
+    if first == b'\'' {
+        return text_at(rest);
+    }
+    if is_number_start(first) {
+        return numeric_at(bytes);
+    }
+    symbol_at(first, rest)
 }
 
 fn word_at(bytes: &[u8]) -> Option<(Token<'_>, &[u8])>

@@ -2,6 +2,7 @@
 use crate::keyword::Keyword;
 use gm_calendar::Instant;
 
+/// A bracket, the comma, a comparison, or the slash between two instants.
 #[derive(Clone, Copy, Debug, PartialEq, Eq)]
 pub enum Symbol {
     Opening,

@@ -18,9 +18,9 @@ fn are_plain(row: &[u8]) -> bool
 pub(crate) fn is_plain(row: &[u8]) -> bool
     ensures { result ≡ spec.is_plain row.now }
 {
-    let some = !row.is_empty();
-    let no_mark = !begins_with_mark(row);
-    some && no_mark && are_plain(row)
+    let has_bytes = !row.is_empty();
+    let unmarked = !begins_with_mark(row);
+    has_bytes && unmarked && are_plain(row)
 }
 
 /// What stands between the commas.
@@ -30,10 +30,10 @@ pub(crate) fn cut_row<'a>(alloc: Global, row: &'a [u8]) -> Result<Vec<&'a [u8]>,
 {
     let mut fields = Vec::new(alloc);
     let mut start = 0;
-    'bytes: for (place, byte) in row.iter().enumerate() {
+    'bytes: for (index, byte) in row.iter().enumerate() {
         if *byte == b',' {
-            fields.push(&row[start..place])?;
-            start = place + 1;
+            fields.push(&row[start..index])?;
+            start = index + 1;
         }
     }
     fields.push(&row[start..])?;

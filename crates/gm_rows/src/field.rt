@@ -58,19 +58,14 @@ fn integer(field: &[u8]) -> Option<i32>
     let Ok(text) = str::from_utf8(field) else {
         return None;
     };
-    match text.parse::<i32>() {
-        Ok(number) => Some(number),
-        Err(_) => None,
-    }
+    text.parse::<i32>().ok()
 }
 
 fn read_integer(field: &[u8]) -> Result<Value, RowFault>
     ensures { Answers (spec.read_as Value.Integer (spec.integer_of 31 field.now)) result }
 {
-    match integer(field) {
-        Some(number) => Ok(Value::Integer(number)),
-        None => Err(RowFault::Value),
-    }
+    let number = integer(field).ok_or(RowFault::Value)?;
+    Ok(Value::Integer(number))
 }
 
 fn long(field: &[u8]) -> Option<i64>
@@ -79,19 +74,14 @@ fn long(field: &[u8]) -> Option<i64>
     let Ok(text) = str::from_utf8(field) else {
         return None;
     };
-    match text.parse::<i64>() {
-        Ok(number) => Some(number),
-        Err(_) => None,
-    }
+    text.parse::<i64>().ok()
 }
 
 fn read_long(field: &[u8]) -> Result<Value, RowFault>
     ensures { Answers (spec.read_as Value.Long (spec.integer_of 63 field.now)) result }
 {
-    match long(field) {
-        Some(number) => Ok(Value::Long(number)),
-        None => Err(RowFault::Value),
-    }
+    let number = long(field).ok_or(RowFault::Value)?;
+    Ok(Value::Long(number))
 }
 
 fn truth(field: &[u8]) -> Option<bool>
@@ -109,19 +99,15 @@ fn truth(field: &[u8]) -> Option<bool>
 fn read_truth(field: &[u8]) -> Result<Value, RowFault>
     ensures { Answers (spec.read_as Value.Boolean (spec.truth_of field.now)) result }
 {
-    match truth(field) {
-        Some(truth) => Ok(Value::Boolean(truth)),
-        None => Err(RowFault::Value),
-    }
+    let truth = truth(field).ok_or(RowFault::Value)?;
+    Ok(Value::Boolean(truth))
 }
 
 fn read_date(field: &[u8]) -> Result<Value, RowFault>
     ensures { Answers (spec.read_as Value.Date (instant_of field.now)) result }
 {
-    match read_instant(field) {
-        Some(at) => Ok(Value::Date(at)),
-        None => Err(RowFault::Value),
-    }
+    let at = read_instant(field).ok_or(RowFault::Value)?;
+    Ok(Value::Date(at))
 }
 
 fn read_geometry(alloc: Global, shape: GeoKind, field: &[u8]) -> Result<Value, RowFault>

@@ -45,24 +45,22 @@ fn read_plain(alloc: Global, of: &FeatureType, row: &[u8]) -> Result<Feature, Ro
 fn read_quoted(alloc: Global, of: &FeatureType, row: &[u8]) -> Result<Feature, RowFault>
     ensures { Answers (spec.row_of of.now row.now) result }
 {
-    match read_record(alloc, row) {
-        Ok(Some(record)) => match fields_in(alloc, &record) {
-            Ok(fields) => read_feature(alloc, of, fields.as_slice()),
-            Err(NoMemory) => Err(RowFault::NoMemory),
-        },
-        Ok(None) => Err(RowFault::Count),
-        Err(NoMemory) => Err(RowFault::NoMemory),
-    }
+    let Ok(record) = read_record(alloc, row) else {
+        return Err(RowFault::NoMemory);
+    };
+    let record = record.ok_or(RowFault::Count)?;
+    let Ok(fields) = fields_in(alloc, &record) else {
+        return Err(RowFault::NoMemory);
+    };
+    read_feature(alloc, of, fields.as_slice())
 }
 
 // The feature of a record.
 fn read_feature(alloc: Global, of: &FeatureType, fields: &[&[u8]]) -> Result<Feature, RowFault>
     ensures { Answers (spec.feature_of_record of.now (Some (map (λ f. f.now) fields.now))) result }
 {
-    match fields.split_first() {
-        None => Err(RowFault::Count),
-        Some((id, fields)) => read_fields(alloc, of, id, fields),
-    }
+    let (id, fields) = fields.split_first().ok_or(RowFault::Count)?;
+    read_fields(alloc, of, id, fields)
 }
 
 fn read_fields(
@@ -78,10 +76,8 @@ fn read_fields(
     if fields.len() != attributes.len() {
         return Err(RowFault::Count);
     }
-    match read_values(alloc, attributes, fields) {
-        Err(fault) => Err(fault),
-        Ok(values) => feature_with(alloc, of, id, values),
-    }
+    let values = read_values(alloc, attributes, fields)?;
+    feature_with(alloc, of, id, values)
 }
 
 // The feature with an identifier and values, where its date has a bin if it needs one.

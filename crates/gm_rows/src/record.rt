@@ -36,7 +36,7 @@ pub(crate) fn read_record(alloc: Global, row: &[u8]) -> Result<Option<ByteRecord
 pub(crate) fn fields_in<'a>(alloc: Global, row: &'a ByteRecord) -> Result<Vec<&'a [u8]>, NoMemory>
     ensures { IfOk result (λ fields. map (λ f. f.now) fields.items ≡ fields_of row.now) }
 {
-    let mut fields = Vec::new(alloc);
+    let mut fields = Vec::with_capacity(alloc, row.len())?;
     'fields: for index in 0..row.len() {
         match row.get(index) {
             Some(field) => fields.push(field)?,

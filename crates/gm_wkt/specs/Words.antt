@@ -1,5 +1,5 @@
 -- Keywords, as a reader finds them.
-use Rattle.std.specs.Prelude.{ℕ, Bool, if◌then◌else◌, List, map, Option, Some, None}
+use Rattle.std.specs.Prelude.{◌==◌, ℕ, Bool, if◌then◌else◌, List, map, Option, Some, None}
 use Rattle.std.specs.List.{prefix_len}
 use Rattle.std.specs.Char.{is_ascii_alphabetic, to_ascii_lowercase}
 use Rattle.std.specs.Cmp.Lexicographic.{pointwise}

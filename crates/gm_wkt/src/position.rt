@@ -78,10 +78,8 @@ fn number_at(bytes: &[u8]) -> Option<(i32, &[u8])>
     ensures { option_map (λ n. (n.0, n.1.now)) result ≡ spec.number_at bytes.now }
 {
     let (token, rest) = bytes.split_at(number_run(bytes));
-    match coordinate_of(token) {
-        None => None,
-        Some(value) => Some((value, rest)),
-    }
+    let value = coordinate_of(token)?;
+    Some((value, rest))
 }
 
 fn begins_blank(bytes: &[u8]) -> bool
@@ -99,57 +97,44 @@ fn second_at(x: i32, bytes: &[u8]) -> Option<(Point, &[u8])>
     if !begins_blank(bytes) {
         return None;
     }
-    match number_at(skip_blanks(bytes)) {
-        None => None,
-        Some((y, rest)) => Some((Point { x, y }, rest)),
-    }
+    let (y, rest) = number_at(skip_blanks(bytes))?;
+    Some((Point { x, y }, rest))
 }
 
 /// Two numbers with blanks between them, and what follows.
 pub fn position_at(bytes: &[u8]) -> Option<(Point, &[u8])>
     ensures { option_map (λ n. (n.0, n.1.now)) result ≡ spec.position_at bytes.now }
 {
-    match number_at(bytes) {
-        None => None,
-        Some((x, rest)) => second_at(x, rest),
-    }
+    let (x, rest) = number_at(bytes)?;
+    second_at(x, rest)
 }
 
 /// A position in brackets, and what follows.
 pub fn lone_at(bytes: &[u8]) -> Option<(Point, &[u8])>
     ensures { option_map (λ n. (n.0, n.1.now)) result ≡ spec.lone_at bytes.now }
 {
-    match behind(b'(', bytes) {
-        None => None,
-        Some(inside) => lone_inside(inside),
-    }
+    let inside = behind(b'(', bytes)?;
+    lone_inside(inside)
 }
 
 fn lone_inside(bytes: &[u8]) -> Option<(Point, &[u8])>
     ensures { option_map (λ n. (n.0, n.1.now)) result ≡ spec.lone_inside bytes.now }
 {
-    match position_at(skip_blanks(bytes)) {
-        None => None,
-        Some((point, rest)) => closed_at(point, rest),
-    }
+    let (point, rest) = position_at(skip_blanks(bytes))?;
+    closed_at(point, rest)
 }
 
 fn closed_at(point: Point, bytes: &[u8]) -> Option<(Point, &[u8])>
     ensures { option_map (λ n. (n.0, n.1.now)) result ≡ spec.closed_at point bytes.now }
 {
-    match behind(b')', skip_blanks(bytes)) {
-        None => None,
-        Some(rest) => Some((point, rest)),
-    }
+    let rest = behind(b')', skip_blanks(bytes))?;
+    Some((point, rest))
 }
 
 fn opens(bytes: &[u8]) -> bool
     ensures { result ≡ spec.opens bytes.now }
 {
-    match bytes {
-        [first, ..] => *first == b'(',
-        [] => false,
-    }
+    matches!(bytes, [b'(', ..])
 }
 
 /// A position whose brackets may be left out where the notation is loose, and what follows.

@@ -35,8 +35,7 @@ impl Spelled for Point {
 
     ghost starts = { point_starts };
 
-    fn read(alloc: Global, loose: bool, text: &[u8]) -> Result<(Point, &[u8]), Halt> {
-        let _ = alloc;
+    fn read(_: Global, loose: bool, text: &[u8]) -> Result<(Point, &[u8]), Halt> {
         match point_at(loose, text) {
             None => Err(Halt::Syntax),
             Some(read) => Ok(read),

@@ -20,7 +20,7 @@ tokens-preserved c =
     c.blank_count-count.ensures.value c.blank_count-count.ensures.within refl
     (ap token_at (sym c.split_at.ensures.back) ∙ sym c.in-Some.ensures)
     (mapped_push seen_spaced c.tokens.found.items c.push.new.self.items _
-    c.in-Ok.ensures.items) c.tokens.invariant
+    c.in_default-push.ensures.items) c.tokens.invariant
 
 pub returns-clause-found : goal.returns-clause-found
 returns-clause-found c =
@@ -28,10 +28,10 @@ returns-clause-found c =
     (empty_list c.tokens.rest.now c.is_empty.result c.is_empty.ensures c.tokens-test.false)
     c.tokens.invariant
 
-pub returns-in-None-clause-none : goal.returns-in-None-clause-none
-returns-in-None-clause-none c = λ _ ts s.
+pub returns-in_default-clause-none : goal.returns-in_default-clause-none
+returns-in_default-clause-none c = λ _ ts s.
     keeps_none c.args.text.now c.tokens.rest.now c.blank_count-count.result
     (map seen_spaced c.tokens.found.items) ts
     (some_list c.tokens.rest.now c.is_empty.result c.is_empty.ensures c.tokens-test.true)
     c.blank_count-count.ensures.value
-    (ap token_at (sym c.split_at.ensures.back) ∙ sym c.in-None.ensures) c.tokens.invariant s
+    (ap token_at (sym c.split_at.ensures.back) ∙ sym c.in_default.ensures) c.tokens.invariant s

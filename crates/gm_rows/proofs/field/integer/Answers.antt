@@ -2,18 +2,14 @@ use Rattle.std.proofs.Common.{◌∙◌, sym, ap}
 use mir.Syntax.{w32}
 use mir.Val.{hbits}
 use Rattle.gm_rows.specs.Reader.{integer_of}
-use Rattle.gm_rows.proofs.Numbers.{no_number, parsed_ok, parsed_err}
+use Rattle.gm_rows.proofs.Numbers.{no_number, parsed}
 use Rattle.gm_rows.proofs.field.integer.Goals as goal
 
 pub returns-in_default : goal.returns-in_default
 returns-in_default c = sym (no_number w32 c.args.field.now c.in_default.ensures.cases.0)
 
-pub returns-in-Ok-parse : goal.returns-in-Ok-parse
-returns-in-Ok-parse c =
-    parsed_ok w32 c.in-Ok.text.now c.in-Ok-parse.number c.in-Ok-parse.ensures.value.0
-    ∙ ap (integer_of (hbits w32)) c.in-Ok.ensures.cases.0
-
-pub returns-in-Err : goal.returns-in-Err
-returns-in-Err c =
-    parsed_err w32 c.in-Ok.text.now c.in-Err.ensures.value.0
+pub returns : goal.returns
+returns c =
+    c.ok.ensures.value
+    ∙ parsed w32 c.in-Ok.text.now c.parse.result c.parse.ensures.value.0
     ∙ ap (integer_of (hbits w32)) c.in-Ok.ensures.cases.0
