@@ -109,6 +109,7 @@ pub fn run<S: Source, K: Sink, F: Folder, G: Gate + Sync, B: Sorted + Sync>(
         → (Rose (K.faults sink.old) (K.faults sink.new) → ⊥)
         → (result ≡ Status.Done) ⊎ (result ≡ Status.NoMemory)) }
 {
+    // These two reads serve only the proof.
     let _folder = folder;
     let _gate = gate;
     let options = match read_words(alloc, words) {
@@ -296,9 +297,7 @@ fn serve_made<K: Sink, B: Sorted>(
         return Err(SinkRefusal::NoMemory);
     };
     let bytes = script.as_bytes();
-    if let Err(refusal) = serve_whole(alloc, setting, bytes, sink, store, &mut pending, tally) {
-        return Err(refusal);
-    }
+    serve_whole(alloc, setting, bytes, sink, store, &mut pending, tally)?;
     if let Err(Failed) = sink.flush() {
         return Err(SinkRefusal::Failed);
     }
@@ -359,11 +358,9 @@ fn serve_whole<K: Sink, B: Sorted>(
     ensures later { K.faults sink.old ≤ K.faults sink.new }
 {
     let mut held = Vec::new(alloc);
-    if let Err(refusal) = serve_piece(
+    serve_piece(
         alloc, setting, script, &mut held, sink, store, pending, tally,
-    ) {
-        return Err(refusal);
-    }
+    )?;
     serve_last(alloc, setting, &held, sink, store, pending, tally)
 }
 
@@ -394,9 +391,7 @@ fn serve_last<K: Sink, B: Sorted>(
         → Rose (K.faults sink.old) (K.faults sink.new) }
     ensures later { K.faults sink.old ≤ K.faults sink.new }
 {
-    if let Err(refusal) = serve_rest(alloc, setting, held, sink, store, pending, tally) {
-        return Err(refusal);
-    }
+    serve_rest(alloc, setting, held, sink, store, pending, tally)?;
     serve_end(alloc, setting, sink, store, pending, tally)
 }
 
