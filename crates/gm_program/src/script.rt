@@ -19,7 +19,7 @@ use crate::pending::Pending;
 use crate::quiet::serve_quietly;
 use crate::serve::{serve_end, serve_line, serve_piece};
 use crate::setting::{PLAIN, Setting};
-use crate::stop::{Stop, status_of, status_of_made, stop_of};
+use crate::stop::{Stop, status_of, status_of_made};
 use crate::store::Store;
 use crate::words::read_words;
 use crate::{Status, generator};
@@ -151,7 +151,7 @@ fn serve_all<S: Source, K: Sink, B: Sorted>(
     };
     let mut held = Vec::new(alloc);
     let mut pending = Pending::Nothing;
-    if let Err(stop) = serve_pieces(
+    serve_pieces(
         alloc,
         setting,
         &mut piece,
@@ -161,12 +161,8 @@ fn serve_all<S: Source, K: Sink, B: Sorted>(
         store,
         &mut pending,
         tally,
-    ) {
-        return Err(stop);
-    }
-    if let Err(refusal) = serve_last(alloc, setting, &held, sink, store, &mut pending, tally) {
-        return Err(stop_of(refusal));
-    }
+    )?;
+    serve_last(alloc, setting, &held, sink, store, &mut pending, tally)?;
     if let Err(Failed) = sink.flush() {
         return Err(Stop::WriteFault);
     }
@@ -254,7 +250,7 @@ fn serve_next<S: Source, K: Sink, B: Sorted>(
     if n == budget {
         return Err(Stop::TooLong);
     }
-    if let Err(refusal) = serve_piece(
+    serve_piece(
         alloc,
         setting,
         &part[..n],
@@ -263,9 +259,7 @@ fn serve_next<S: Source, K: Sink, B: Sorted>(
         store,
         pending,
         tally,
-    ) {
-        return Err(stop_of(refusal));
-    }
+    )?;
     Ok(n)
 }
 
