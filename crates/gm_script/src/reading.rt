@@ -116,22 +116,13 @@ fn read_question(
     ensures suits { IfOk result (λ c. Suits types.now (order_of c)) }
 {
     if verb == b"query".as_slice() {
-        return match read_ask(alloc, types, name, rest) {
-            Ok(ask) => Ok(Command::Query(ask)),
-            Err(why) => Err(why),
-        };
+        return Ok(Command::Query(read_ask(alloc, types, name, rest)?));
     }
     if verb == b"count".as_slice() {
-        return match read_ask(alloc, types, name, rest) {
-            Ok(ask) => Ok(Command::Count(ask)),
-            Err(why) => Err(why),
-        };
+        return Ok(Command::Count(read_ask(alloc, types, name, rest)?));
     }
     if verb == b"explain".as_slice() {
-        return match read_ask(alloc, types, name, rest) {
-            Ok(ask) => Ok(Command::Explain(ask)),
-            Err(why) => Err(why),
-        };
+        return Ok(Command::Explain(read_ask(alloc, types, name, rest)?));
     }
     Err(refused(Code::E03))
 }

@@ -40,6 +40,7 @@ fn read_identifier(
     ensures reads { Reads (delete_at type_number id.now) result }
     ensures suits { SuitsAt type_number of.now result }
 {
+    // This read serves only the proof.
     let _number = of.number();
     match FeatureId::of(alloc, id) {
         Ok(id) => Ok(Command::Delete(type_number, id)),
