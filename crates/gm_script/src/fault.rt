@@ -6,7 +6,7 @@ use gm_base::Code;
 use gm_ecql::FilterFault;
 use gm_rows::RowFault;
 
-/// Why a line became no command. What no code says is that there was no memory.
+/// Why a line became no command.
 #[derive(Clone, Copy, Debug, PartialEq, Eq)]
 pub enum LineFault {
     /// The code, and how many further lines the refused line takes.

@@ -12,13 +12,13 @@ broken bytes h = elim (cases_Bool (is_utf8 bytes)) [
   | inr e ↦ e
 ]
 
-decided : {T E : Type 0} {P : T → Type 0} {Q : E → Type 0} (bytes : List ℕ) (r : Result T E)
+decided : {T E : Type 0} (P : T → Type 0) (Q : E → Type 0) (bytes : List ℕ) (r : Result T E)
     → MatchResult r (λ x. P x × IsUtf8 bytes) (λ e. (¬ IsUtf8 bytes) × Q e)
     → is_ok r ≡ is_utf8 bytes
-decided bytes (Ok x) h = sym (is_utf8-from_IsUtf8 bytes h.1)
-decided bytes (Err e) h = sym (broken bytes h.0)
+decided P Q bytes (Ok x) h = sym (is_utf8-from_IsUtf8 bytes h.1)
+decided P Q bytes (Err e) h = sym (broken bytes h.0)
 
 pub returns : goal.returns
 returns c =
     c.is_ok.ensures.value
-    ∙ decided c.args.bytes.now c.from_utf8.result c.from_utf8.ensures.cases
+    ∙ decided _ _ c.args.bytes.now c.from_utf8.result c.from_utf8.ensures.cases
