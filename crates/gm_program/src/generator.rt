@@ -7,7 +7,7 @@ ghost use Rattle.gm_keys.specs.Cell.{world_width, world_height};
 ghost use Rattle.gm_program.specs.Generator as spec;
 
 use gm_base::{Bytes, NoMemory};
-use gm_calendar::{Instant, print_instant};
+use gm_calendar::{Instant, append_instant};
 use gm_geom::append_fixed;
 use itoa::Buffer;
 use std::alloc::Global;
@@ -16,14 +16,16 @@ const MULTIPLIER: u64 = 6_364_136_223_846_793_005;
 
 const INCREMENT: u64 = 1_442_695_040_888_963_407;
 
-/// 2020-01-01T00:00:00Z in milliseconds, and the seconds of that year's first 365 days.
+/// 2020-01-01T00:00:00Z in milliseconds.
 const START_MS: i64 = 1_577_836_800_000;
 
+/// The seconds of the first 365 days of 2020.
 const SECONDS: u64 = 31_536_000;
 
-/// Half the world's longitudes and latitudes, in units of 10^-7 degree.
+/// Half the world's longitudes, in units of 10^-7 degree.
 const HALF_WIDTH: u64 = 1_800_000_000;
 
+/// Half the world's latitudes, in units of 10^-7 degree.
 const HALF_HEIGHT: u64 = 900_000_000;
 
 /// The script of a type `gen`, so many features of it, and seven counts: the same for the same
@@ -47,7 +49,7 @@ pub(crate) fn loading(alloc: Global, seed: u64, count: u32) -> Result<String, No
         &mut script,
         "create gen name:String:index=true,n:Integer,dtg:Date,*geom:Point\n",
     )?;
-    append_puts(alloc, &mut script, seed, count)?;
+    append_puts(&mut script, seed, count)?;
     Ok(script)
 }
 
@@ -87,24 +89,19 @@ fn append_counts(script: &mut String) -> Result<(), NoMemory>
 }
 
 // The puts of so many features, numbered from 1.
-fn append_puts(alloc: Global, script: &mut String, seed: u64, count: u32) -> Result<(), NoMemory>
+fn append_puts(script: &mut String, seed: u64, count: u32) -> Result<(), NoMemory>
     ensures { IfOk result (λ _. string_bytes script.new
         ≡ string_bytes script.old ++ spec.put_lines count 1 seed) }
 {
     let mut state = seed;
     'puts: for feature_place in 0..count {
-        append_put(alloc, script, feature_place + 1, &mut state)?;
+        append_put(script, feature_place + 1, &mut state)?;
     }
     Ok(())
 }
 
 // The put of the feature with this number.
-fn append_put(
-    alloc: Global,
-    script: &mut String,
-    feature_number: u32,
-    state: &mut u64,
-) -> Result<(), NoMemory>
+fn append_put(script: &mut String, feature_number: u32, state: &mut u64) -> Result<(), NoMemory>
     ensures script { IfOk result (λ _. string_bytes script.new
         ≡ string_bytes script.old ++ spec.put_line feature_number state.old) }
     ensures state { IfOk result (λ _. state.new ≡ spec.behind 5 state.old) }
@@ -121,7 +118,7 @@ fn append_put(
     append(script, ",")?;
     append_number(script, value)?;
     append(script, ",")?;
-    append_second(alloc, script, second)?;
+    append_second(script, second)?;
     append_place(script, x, y)?;
     Ok(())
 }
@@ -145,14 +142,12 @@ fn append_number(script: &mut String, number: u64) -> Result<(), NoMemory>
 }
 
 // The instant that is so many seconds after the start of 2020.
-fn append_second(alloc: Global, script: &mut String, second: u64) -> Result<(), NoMemory>
+fn append_second(script: &mut String, second: u64) -> Result<(), NoMemory>
     requires { second < 31536000 }
     ensures { IfOk result (λ _. string_bytes script.new
         ≡ string_bytes script.old ++ instant_text (spec.second_of_2020 second)) }
 {
-    let at = instant_at(second);
-    let text = print_instant(alloc, at)?;
-    append(script, text.as_str())
+    append_instant(script, instant_at(second))
 }
 
 fn instant_at(second: u64) -> Instant

@@ -13,7 +13,7 @@ pub(crate) fn number_in(text: &str, least: u64, most: u64) -> Option<u64>
     }
     match text.parse::<u64>() {
         Ok(number) => {
-            if least <= number && number <= most {
+            if (least..=most).contains(&number) {
                 Some(number)
             } else {
                 None

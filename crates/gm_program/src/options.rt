@@ -1,4 +1,5 @@
 // What the words after the program's name come to.
+use gm_base::NoMemory;
 
 /// What the program was asked to do.
 #[derive(Clone, Copy, Debug, PartialEq, Eq)]
@@ -22,4 +23,15 @@ pub(crate) enum WordsFault {
 
     /// There was no memory to read them.
     NoMemory,
+}
+
+impl From<NoMemory> for WordsFault {
+    ghost use Rattle.std.specs.Prelude.{◌≡◌};
+    ghost use Rattle.gm_program.specs.declared.options.WordsFault.TheVariants as fault;
+
+    ghost from_gives = { λ _ e. e ≡ fault.NoMemory };
+
+    fn from(_: NoMemory) -> Self {
+        WordsFault::NoMemory
+    }
 }

@@ -19,7 +19,7 @@ use crate::pending::Pending;
 use crate::quiet::serve_quietly;
 use crate::serve::{serve_end, serve_line, serve_piece};
 use crate::setting::{PLAIN, Setting};
-use crate::stop::{Stop, status_of, status_of_made, stop_of};
+use crate::stop::{Stop, status_of, status_of_made};
 use crate::store::Store;
 use crate::words::read_words;
 use crate::{Status, generator};
@@ -109,6 +109,7 @@ pub fn run<S: Source, K: Sink, F: Folder, G: Gate + Sync, B: Sorted + Sync>(
         → (Rose (K.faults sink.old) (K.faults sink.new) → ⊥)
         → (result ≡ Status.Done) ⊎ (result ≡ Status.NoMemory)) }
 {
+    // These two reads serve only the proof.
     let _folder = folder;
     let _gate = gate;
     let options = match read_words(alloc, words) {
@@ -150,7 +151,7 @@ fn serve_all<S: Source, K: Sink, B: Sorted>(
     };
     let mut held = Vec::new(alloc);
     let mut pending = Pending::Nothing;
-    if let Err(stop) = serve_pieces(
+    serve_pieces(
         alloc,
         setting,
         &mut piece,
@@ -160,12 +161,8 @@ fn serve_all<S: Source, K: Sink, B: Sorted>(
         store,
         &mut pending,
         tally,
-    ) {
-        return Err(stop);
-    }
-    if let Err(refusal) = serve_last(alloc, setting, &held, sink, store, &mut pending, tally) {
-        return Err(stop_of(refusal));
-    }
+    )?;
+    serve_last(alloc, setting, &held, sink, store, &mut pending, tally)?;
     if let Err(Failed) = sink.flush() {
         return Err(Stop::WriteFault);
     }
@@ -253,7 +250,7 @@ fn serve_next<S: Source, K: Sink, B: Sorted>(
     if n == budget {
         return Err(Stop::TooLong);
     }
-    if let Err(refusal) = serve_piece(
+    serve_piece(
         alloc,
         setting,
         &part[..n],
@@ -262,9 +259,7 @@ fn serve_next<S: Source, K: Sink, B: Sorted>(
         store,
         pending,
         tally,
-    ) {
-        return Err(stop_of(refusal));
-    }
+    )?;
     Ok(n)
 }
 
@@ -296,9 +291,7 @@ fn serve_made<K: Sink, B: Sorted>(
         return Err(SinkRefusal::NoMemory);
     };
     let bytes = script.as_bytes();
-    if let Err(refusal) = serve_whole(alloc, setting, bytes, sink, store, &mut pending, tally) {
-        return Err(refusal);
-    }
+    serve_whole(alloc, setting, bytes, sink, store, &mut pending, tally)?;
     if let Err(Failed) = sink.flush() {
         return Err(SinkRefusal::Failed);
     }
@@ -359,11 +352,9 @@ fn serve_whole<K: Sink, B: Sorted>(
     ensures later { K.faults sink.old ≤ K.faults sink.new }
 {
     let mut held = Vec::new(alloc);
-    if let Err(refusal) = serve_piece(
+    serve_piece(
         alloc, setting, script, &mut held, sink, store, pending, tally,
-    ) {
-        return Err(refusal);
-    }
+    )?;
     serve_last(alloc, setting, &held, sink, store, pending, tally)
 }
 
@@ -394,9 +385,7 @@ fn serve_last<K: Sink, B: Sorted>(
         → Rose (K.faults sink.old) (K.faults sink.new) }
     ensures later { K.faults sink.old ≤ K.faults sink.new }
 {
-    if let Err(refusal) = serve_rest(alloc, setting, held, sink, store, pending, tally) {
-        return Err(refusal);
-    }
+    serve_rest(alloc, setting, held, sink, store, pending, tally)?;
     serve_end(alloc, setting, sink, store, pending, tally)
 }
 

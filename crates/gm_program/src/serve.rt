@@ -35,10 +35,7 @@ fn write_all<K: Sink>(alloc: Global, sink: &mut K, bytes: &[u8]) -> Result<(), S
 {
     let mut at = 0;
     while at < bytes.len() {
-        match sink.write(alloc, &bytes[at..]) {
-            Ok(n) => at += n,
-            Err(refusal) => return Err(refusal),
-        }
+        at += sink.write(alloc, &bytes[at..])?;
     }
     Ok(())
 }
@@ -215,9 +212,7 @@ pub(crate) fn serve_piece<K: Sink, B: Sorted>(
     let mut at = 0;
     while let Some(length) = memchr(b'\n', &piece[at..]) {
         let part = &piece[at..at + length];
-        if let Err(refusal) = serve_ended(alloc, setting, part, held, sink, store, pending, tally) {
-            return Err(refusal);
-        }
+        serve_ended(alloc, setting, part, held, sink, store, pending, tally)?;
         at += length + 1;
     }
     if let Err(NoMemory) = hold(held, &piece[at..]) {
@@ -262,9 +257,7 @@ fn serve_ended<K: Sink, B: Sorted>(
     if let Err(NoMemory) = hold(held, part) {
         return Err(SinkRefusal::NoMemory);
     }
-    if let Err(refusal) = serve_line(alloc, setting, held, sink, store, pending, tally) {
-        return Err(refusal);
-    }
+    serve_line(alloc, setting, held, sink, store, pending, tally)?;
     held.clear();
     Ok(())
 }

@@ -1,6 +1,6 @@
 // Why serving ends before the script does.
 ghost use Rattle.std.specs.Prelude.{◌≡◌};
-ghost use Rattle.gm_program.specs.Status.{made_status, status_from, stop_from};
+ghost use Rattle.gm_program.specs.Status.{made_status, status_from};
 
 use crate::Status;
 use gm_outside::SinkRefusal;
@@ -14,12 +14,17 @@ pub(crate) enum Stop {
 }
 
 /// The stop of a run whose sink refused so, or that lacked memory.
-pub(crate) fn stop_of(refusal: SinkRefusal) -> Stop
-    ensures { result ≡ stop_from refusal }
-{
-    match refusal {
-        SinkRefusal::Failed => Stop::WriteFault,
-        SinkRefusal::NoMemory => Stop::NoMemory,
+impl From<SinkRefusal> for Stop {
+    ghost use Rattle.std.specs.Prelude.{◌≡◌};
+    ghost use Rattle.gm_program.specs.Status.{stop_from};
+
+    ghost from_gives = { λ refusal stop. stop ≡ stop_from refusal };
+
+    fn from(refusal: SinkRefusal) -> Self {
+        match refusal {
+            SinkRefusal::Failed => Stop::WriteFault,
+            SinkRefusal::NoMemory => Stop::NoMemory,
+        }
     }
 }
 

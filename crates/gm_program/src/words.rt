@@ -21,14 +21,8 @@ const COUNT_LIMIT: u64 = 100_000;
 pub(crate) fn read_words(alloc: Global, words: &[Text]) -> Result<Options, WordsFault>
     ensures { Reads (options_of words.now) result }
 {
-    let texts = match texts_of(alloc, words) {
-        Ok(texts) => texts,
-        Err(NoMemory) => return Err(WordsFault::NoMemory),
-    };
-    let matches = match parsed(alloc, texts.as_slice()) {
-        Ok(matches) => matches,
-        Err(fault) => return Err(fault),
-    };
+    let texts = texts_of(alloc, words)?;
+    let matches = parsed(alloc, texts.as_slice())?;
     match generate_in(matches.get_str("generate")) {
         Some(generate) => Ok(Options { generate }),
         None => Err(WordsFault::Usage),
@@ -65,11 +59,7 @@ fn parsed<'a>(alloc: Global, words: &'a [&'a str]) -> Result<ArgMatches<'a>, Wor
     ensures usage { IfErr result (λ e. e ≡ Usage
         → has_fault (map (λ s. s.now) words.entry.now) ≡ true) }
 {
-    let command = match command(alloc) {
-        Ok(command) => command,
-        Err(NoMemory) => return Err(WordsFault::NoMemory),
-    };
-    match command.try_get_matches_from(words) {
+    match command(alloc)?.try_get_matches_from(words) {
         Ok(matches) => Ok(matches),
         Err(error) => {
             if error.kind() == ErrorKind::OutOfMemory {
@@ -87,10 +77,7 @@ fn generate_in(value: Option<&str>) -> Option<Option<Made>>
 {
     match value {
         None => Some(None),
-        Some(text) => match pair_in(text) {
-            Some(made) => Some(Some(made)),
-            None => None,
-        },
+        Some(text) => Some(Some(pair_in(text)?)),
     }
 }
 
@@ -98,19 +85,11 @@ fn generate_in(value: Option<&str>) -> Option<Option<Made>>
 fn pair_in(text: &str) -> Option<Made>
     ensures { result ≡ pair_value text.now }
 {
-    match text.split_once(':') {
-        None => None,
-        Some((seed, count)) => {
-            match (
-                number_in(seed, 0, u64::MAX),
-                number_in(count, 1, COUNT_LIMIT),
-            ) {
-                (Some(seed), Some(count)) => Some(Made {
-                    seed,
-                    count: count as u32,
-                }),
-                _ => None,
-            }
-        }
-    }
+    let (seed, count) = text.split_once(':')?;
+    let seed = number_in(seed, 0, u64::MAX)?;
+    let count = number_in(count, 1, COUNT_LIMIT)?;
+    Some(Made {
+        seed,
+        count: count as u32,
+    })
 }

@@ -3,3 +3,4 @@ mod AskWords
 mod FormedLines
 mod LaidLines
 mod Targets
+mod TypedLines

@@ -58,6 +58,11 @@ with_rest types name rest on =
     if not (is_name name) || is_nothing rest then refused E04
     else on_type on (type_named types name)
 
+-- the type itself, and its number
+abbrev pub type_for : List Specification → List ℕ → List ℕ
+    → Result (ℕ × Specification) LineFault
+type_for types name rest = with_rest types name rest (λ n t. Ok (n, t))
+
 -- ---- create
 -- so many attributes are more than a type may have
 abbrev pub attributes_too_many : ℕ

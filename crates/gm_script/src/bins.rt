@@ -10,10 +10,7 @@ use gm_types::{FeatureType, IndexKind};
 fn is_place(attribute: u16, default_date: Option<u16>) -> bool
     ensures { result ≡ spec.is_place attribute default_date }
 {
-    match default_date {
-        Some(default_date) => default_date == attribute,
-        None => false,
-    }
+    default_date == Some(attribute)
 }
 
 fn has_bin(period: Period, value: &Value) -> bool

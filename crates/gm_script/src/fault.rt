@@ -6,11 +6,13 @@ use gm_base::Code;
 use gm_ecql::FilterFault;
 use gm_rows::RowFault;
 
+/// Why a line became no command.
 #[derive(Clone, Copy, Debug, PartialEq, Eq)]
 pub enum LineFault {
     /// The code, and how many further lines the refused line takes.
     Refused(Code, u32),
 
+    /// There was no memory to read the line.
     NoMemory,
 }
 

@@ -27,8 +27,5 @@ pub(crate) fn says_nothing(text: &[u8]) -> bool
 pub(crate) fn is_utf8(bytes: &[u8]) -> bool
     ensures { result ≡ text.is_utf8 bytes.now }
 {
-    match str::from_utf8(bytes) {
-        Ok(_) => true,
-        Err(_) => false,
-    }
+    str::from_utf8(bytes).is_ok()
 }

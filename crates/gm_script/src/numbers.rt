@@ -42,7 +42,7 @@ fn target_number(digits: &[u8]) -> Option<u64>
         return None;
     }
     match str::from_utf8(digits) {
-        Ok(digits) => number_of(digits),
+        Ok(text) => number_of(text),
         Err(_) => None,
     }
 }

@@ -1,5 +1,6 @@
 // A line as a command.
-ghost use Rattle.std.specs.Prelude.{◌≡◌, ◌≤◌, length, slice_get, Some, option_map, IfOk, IfSome};
+ghost use Rattle.std.specs.Prelude.{◌≡◌, ◌≤◌, length, slice_get, Some, Ok, Err, option_map};
+ghost use Rattle.std.specs.Prelude.{IfOk, IfErr, IfSome};
 ghost use Rattle.gm_script.specs.Order.{order_of};
 ghost use Rattle.gm_script.specs.Reading as spec;
 ghost use Rattle.gm_script.specs.Reading.{Reads, reading, reading_of, command_in};
@@ -23,7 +24,7 @@ use create::read_create;
 use delete::read_delete;
 use describe::read_describe;
 use gm_base::Code;
-use gm_types::{FeatureType, TypeList};
+use gm_types::{FeatureType, TypeList, is_name};
 use modify::read_modify;
 use put::read_put;
 use remove::read_remove;
@@ -116,24 +117,35 @@ fn read_question(
     ensures suits { IfOk result (λ c. Suits types.now (order_of c)) }
 {
     if verb == b"query".as_slice() {
-        return match read_ask(alloc, types, name, rest) {
-            Ok(ask) => Ok(Command::Query(ask)),
-            Err(why) => Err(why),
-        };
+        return Ok(Command::Query(read_ask(alloc, types, name, rest)?));
     }
     if verb == b"count".as_slice() {
-        return match read_ask(alloc, types, name, rest) {
-            Ok(ask) => Ok(Command::Count(ask)),
-            Err(why) => Err(why),
-        };
+        return Ok(Command::Count(read_ask(alloc, types, name, rest)?));
     }
     if verb == b"explain".as_slice() {
-        return match read_ask(alloc, types, name, rest) {
-            Ok(ask) => Ok(Command::Explain(ask)),
-            Err(why) => Err(why),
-        };
+        return Ok(Command::Explain(read_ask(alloc, types, name, rest)?));
     }
     Err(refused(Code::E03))
+}
+
+// The type with a name, and its number, where something stands behind the name.
+fn type_for<'a>(
+    types: &'a TypeList,
+    name: &[u8],
+    rest: &[u8],
+) -> Result<(u16, &'a FeatureType), LineFault>
+    ensures found { IfOk result (λ found. spec.type_for types.now name.now rest.now
+        ≡ Ok (found.0, found.1.now)) }
+    ensures refused { IfErr result (λ why. spec.type_for types.now name.now rest.now ≡ Err why) }
+    ensures there { IfOk result (λ found. slice_get types.now found.0 ≡ Some found.1.now) }
+{
+    if !is_name(name) || rest.is_empty() {
+        return Err(refused(Code::E04));
+    }
+    match type_named(types, name) {
+        Some(found) => Ok(found),
+        None => Err(refused(Code::E06)),
+    }
 }
 
 // The type with a name, and its number.

@@ -9,6 +9,9 @@ use gm_base::{Bytes, Code, FeatureId, NoMemory, Text};
 use gm_filter::TextList;
 use std::alloc::Global;
 
+/// Room for a reply of one line that names a type or a feature, in bytes.
+const SHORT_ROOM: usize = 160;
+
 /// The answer to a line. The texts of a list are the lines behind the first, without their ends.
 #[derive(Debug, Drop)]
 pub enum Reply {
@@ -57,9 +60,6 @@ fn room_of(reply: &Reply) -> usize {
         _ => SHORT_ROOM,
     }
 }
-
-// Room for a reply of one line that names a type or a feature.
-const SHORT_ROOM: usize = 160;
 
 fn lines_room(lines: &[Text]) -> usize {
     let mut room = SHORT_ROOM;

@@ -35,7 +35,7 @@ pub(super) fn plan_for(alloc: Global, of: &FeatureType, ask: &Ask) -> Result<Pla
         Err(ChooseFault::NotApplicable) => return Ok(Planned::Refused(Code::E18)),
         Err(ChooseFault::NoMemory) => return Err(NoMemory),
     };
-    if ask.target < 1 || TARGET_LIMIT < ask.target {
+    if !(1..=TARGET_LIMIT).contains(&ask.target) {
         return Ok(Planned::Refused(Code::E19));
     }
     Ok(Planned::Parts(plan, ask.target as u32))

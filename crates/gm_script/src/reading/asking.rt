@@ -8,14 +8,14 @@ ghost use Rattle.gm_script.specs.Order.{asked_by};
 ghost use Rattle.gm_script.specs.Reading.{ReadsAsk, ask_named, ask_of, ask_read, ask_with};
 ghost use Rattle.gm_script.specs.Suits.{IsHint, IsQuestion, IsQuestionAt};
 
-use super::type_named;
+use super::type_for;
 use crate::fault::{filter_fault, refused};
 use crate::numbers::target_of;
 use crate::words::split_option;
 use crate::{Ask, LineFault};
 use gm_base::Code;
 use gm_filter::Filter;
-use gm_types::{FeatureType, IndexKind, TypeList, is_name};
+use gm_types::{FeatureType, IndexKind, TypeList};
 use std::alloc::Global;
 
 /// The question that stands behind its first word.
@@ -50,13 +50,8 @@ fn read_named(
         (option_map (λ name. name.now) hint.entry) target text.now) result }
     ensures suits { IfOk result (λ a. IsQuestion types.now (asked_by a)) }
 {
-    if !is_name(name) || text.is_empty() {
-        return Err(refused(Code::E04));
-    }
-    match type_named(types, name) {
-        Some((type_number, of)) => read_question(alloc, type_number, of, hint, target, text),
-        None => Err(refused(Code::E06)),
-    }
+    let (type_number, of) = type_for(types, name, text)?;
+    read_question(alloc, type_number, of, hint, target, text)
 }
 
 // A question of the type with this number. The filter is read before the hint.

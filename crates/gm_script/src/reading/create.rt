@@ -48,6 +48,7 @@ fn with_room(types: &TypeList, of: FeatureType) -> Result<Command, LineFault>
     ensures suits { IfOk result (λ c. Suits types.now (order_of c)) }
 {
     if types.len() < TYPE_LIMIT {
+        // This read serves only the proof.
         let _attributes = of.attributes();
         Ok(Command::Create(of))
     } else {

@@ -4,11 +4,11 @@ ghost use Rattle.gm_script.specs.Order.{order_of};
 ghost use Rattle.gm_script.specs.Reading.{Reads, delete_at, delete_of};
 ghost use Rattle.gm_script.specs.Suits.{Suits, SuitsAt};
 
-use super::type_named;
+use super::type_for;
 use crate::fault::refused;
 use crate::{Command, LineFault};
 use gm_base::{Code, FeatureId, IdFault};
-use gm_types::{FeatureType, TypeList, is_name};
+use gm_types::{FeatureType, TypeList};
 use std::alloc::Global;
 
 #[tactic(auto, unfolding(crate::specs::Reading::delete_of))]
@@ -21,13 +21,8 @@ pub(crate) fn read_delete(
     ensures reads { Reads (delete_of types.now name.now id.now) result }
     ensures suits { IfOk result (λ c. Suits types.now (order_of c)) }
 {
-    if !is_name(name) || id.is_empty() {
-        return Err(refused(Code::E04));
-    }
-    match type_named(types, name) {
-        Some((type_number, of)) => read_identifier(alloc, type_number, of, id),
-        None => Err(refused(Code::E06)),
-    }
+    let (type_number, of) = type_for(types, name, id)?;
+    read_identifier(alloc, type_number, of, id)
 }
 
 // An identifier of a feature of the type with this number.
@@ -40,6 +35,7 @@ fn read_identifier(
     ensures reads { Reads (delete_at type_number id.now) result }
     ensures suits { SuitsAt type_number of.now result }
 {
+    // This read serves only the proof.
     let _number = of.number();
     match FeatureId::of(alloc, id) {
         Ok(id) => Ok(Command::Delete(type_number, id)),

@@ -7,13 +7,13 @@ ghost use Rattle.gm_script.specs.Order.{order_of};
 ghost use Rattle.gm_script.specs.Reading.{Reads, modify_of, modify_read, modify_with};
 ghost use Rattle.gm_script.specs.Suits.{Suits, SuitsAt};
 
-use super::type_named;
+use super::type_for;
 use crate::bins::keeps_bins;
 use crate::fault::{filter_fault, refused};
 use crate::{Command, LineFault};
 use gm_base::Code;
 use gm_ecql::{Change, read_change};
-use gm_types::{FeatureType, TypeList, is_name};
+use gm_types::{FeatureType, TypeList};
 use std::alloc::Global;
 
 #[tactic(auto, unfolding(crate::specs::Reading::modify_of))]
@@ -26,13 +26,8 @@ pub(crate) fn read_modify(
     ensures reads { Reads (modify_of types.now name.now text.now) result }
     ensures suits { IfOk result (λ c. Suits types.now (order_of c)) }
 {
-    if !is_name(name) || text.is_empty() {
-        return Err(refused(Code::E04));
-    }
-    match type_named(types, name) {
-        Some((type_number, of)) => read_new_value(alloc, type_number, of, text),
-        None => Err(refused(Code::E06)),
-    }
+    let (type_number, of) = type_for(types, name, text)?;
+    read_new_value(alloc, type_number, of, text)
 }
 
 // A change of features of the type with this number.

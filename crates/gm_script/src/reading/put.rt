@@ -5,12 +5,11 @@ ghost use Rattle.gm_script.specs.Order.{order_of};
 ghost use Rattle.gm_script.specs.Reading.{Reads, put_of, put_read};
 ghost use Rattle.gm_script.specs.Suits.{Suits, SuitsAt};
 
-use super::type_named;
-use crate::fault::{refused, row_fault};
+use super::type_for;
+use crate::fault::row_fault;
 use crate::{Command, LineFault};
-use gm_base::Code;
 use gm_rows::read_row;
-use gm_types::{FeatureType, TypeList, is_name};
+use gm_types::{FeatureType, TypeList};
 use std::alloc::Global;
 
 #[tactic(auto, unfolding(crate::specs::Reading::put_of))]
@@ -23,13 +22,8 @@ pub(crate) fn read_put(
     ensures reads { Reads (put_of types.now name.now row.now) result }
     ensures suits { IfOk result (λ c. Suits types.now (order_of c)) }
 {
-    if !is_name(name) || row.is_empty() {
-        return Err(refused(Code::E04));
-    }
-    match type_named(types, name) {
-        Some((type_number, of)) => read_feature(alloc, type_number, of, row),
-        None => Err(refused(Code::E06)),
-    }
+    let (type_number, of) = type_for(types, name, row)?;
+    read_feature(alloc, type_number, of, row)
 }
 
 // A row of the type with this number.

@@ -5,11 +5,10 @@ ghost use Rattle.gm_script.specs.Order.{order_of};
 ghost use Rattle.gm_script.specs.Reading.{Reads, remove_of, remove_read};
 ghost use Rattle.gm_script.specs.Suits.{Suits, SuitsAt};
 
-use super::type_named;
-use crate::fault::{filter_fault, refused};
+use super::type_for;
+use crate::fault::filter_fault;
 use crate::{Command, LineFault};
-use gm_base::Code;
-use gm_types::{FeatureType, TypeList, is_name};
+use gm_types::{FeatureType, TypeList};
 use std::alloc::Global;
 
 #[tactic(auto, unfolding(crate::specs::Reading::remove_of))]
@@ -22,13 +21,8 @@ pub(crate) fn read_remove(
     ensures reads { Reads (remove_of types.now name.now text.now) result }
     ensures suits { IfOk result (λ c. Suits types.now (order_of c)) }
 {
-    if !is_name(name) || text.is_empty() {
-        return Err(refused(Code::E04));
-    }
-    match type_named(types, name) {
-        Some((type_number, of)) => read_wanted(alloc, type_number, of, text),
-        None => Err(refused(Code::E06)),
-    }
+    let (type_number, of) = type_for(types, name, text)?;
+    read_wanted(alloc, type_number, of, text)
 }
 
 // A filter of the type with this number.

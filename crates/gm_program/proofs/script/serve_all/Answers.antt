@@ -1,4 +1,5 @@
 use Rattle.std.proofs.Common.{refl, ap, ◌∙◌, arith}
+use Rattle.std.proofs.lemmas.Result.{err_from_is_err_and}
 use Rattle.std.specs.Prelude.{Err}
 use Rattle.gm_program.specs.declared.stop.Stop.TheVariants.{NoMemory, WriteFault}
 use Rattle.gm_program.proofs.Causes.{no_limit, no_read, cause_of_ok, cause_of_err, cause_of_refusal}
@@ -15,48 +16,55 @@ returns-in_default-clause-stopped g c =
 pub serve_pieces-requires-clause-kept : goal.serve_pieces-requires-clause-kept
 serve_pieces-requires-clause-kept g c κs within = kept_at_start c.requires.kept
 
-pub returns-in-Err-clause-stopped : goal.returns-in-Err-clause-stopped
-returns-in-Err-clause-stopped g c = λ s holds script told.
-    stopped_from_breaks c.args.setting s c.in-Err.stop _ _ _ _
-    (record { store = holds; waits = refl }) c.in-Err.ensures.breaks script told
+pub returns-in_err-serve_pieces-clause-stopped : goal.returns-in_err-serve_pieces-clause-stopped
+returns-in_err-serve_pieces-clause-stopped g c =
+    let p = err_from_is_err_and c.from_residual.result c.from_residual.ensures.1 in
+    rw (p.1, p.2) (λ s holds script told.
+    stopped_from_breaks c.args.setting s c.in_err-serve_pieces.field-0.0 _ _ _ _
+    (record { store = holds; waits = refl }) c.in_err-serve_pieces.ensures.breaks script told)
 
 pub serve_last-requires-clause-kept : goal.serve_last-requires-clause-kept
 serve_last-requires-clause-kept g c κs within =
-    streams_keep c.args.setting _ _ _ _ _ _ _ c.in_default-serve_pieces.ensures.streams.2
+    streams_keep c.args.setting _ _ _ _ _ _ _ c.in_ok-serve_pieces.ensures.streams.2
     (kept_at_start c.requires.kept)
 
-pub returns-in-Err-serve_last-clause-stopped : goal.returns-in-Err-serve_last-clause-stopped
-returns-in-Err-serve_last-clause-stopped g c = λ s holds script told.
-    let streams = c.in_default-serve_pieces.ensures.streams in
-    stopped_at_end c.args.setting s c.stop_of.result c.serve_pieces.new.held.items _ _ _ _ _
-    streams.0 streams.2 streams.1
-    (λ is. no_limit c.in-Err-serve_last.refusal c.stop_of.result c.stop_of.ensures is)
-    (λ is. no_read c.in-Err-serve_last.refusal c.stop_of.result c.stop_of.ensures is)
-    (λ start m is kept. c.in-Err-serve_last.ensures.err start m (c.deref.ensures.value ∙ is) kept)
+pub returns-in_err-serve_last-clause-stopped : goal.returns-in_err-serve_last-clause-stopped
+returns-in_err-serve_last-clause-stopped g c =
+    let p = err_from_is_err_and c.from_residual-in_err-serve_last.result
+    c.from_residual-in_err-serve_last.ensures.1 in
+    let refusal = c.in_err-serve_last.field-0.0 in
+    let streams = c.in_ok-serve_pieces.ensures.streams in
+    rw p.1 (λ s holds script told.
+    stopped_at_end c.args.setting s p.0 c.serve_pieces.new.held.items _ _ _ _ _
+    streams.0 streams.2 streams.1 (λ is. no_limit refusal p.0 p.2 is)
+    (λ is. no_read refusal p.0 p.2 is)
+    (λ start m is kept. c.in_err-serve_last.ensures.err start m (c.deref.ensures.value ∙ is) kept)
     (record { store = holds; waits = refl }) script told
-    (c.in_default-serve_pieces.ensures.end script told)
+    (c.in_ok-serve_pieces.ensures.end script told))
 
-pub returns-in-Err-serve_last-clause-cause : goal.returns-in-Err-serve_last-clause-cause
-returns-in-Err-serve_last-clause-cause g c =
-    cause_of_refusal c.in-Err-serve_last.refusal c.stop_of.result _ _ _ _ _ c.stop_of.ensures
+pub returns-in_err-serve_last-clause-cause : goal.returns-in_err-serve_last-clause-cause
+returns-in_err-serve_last-clause-cause g c =
+    let p = err_from_is_err_and c.from_residual-in_err-serve_last.result
+    c.from_residual-in_err-serve_last.ensures.1 in
+    rw p.1 (cause_of_refusal c.in_err-serve_last.field-0.0 p.0 _ _ _ _ _ p.2
     c.serve_pieces.ensures.cause.later_source c.serve_pieces.ensures.cause.later_sink
-    c.serve_last.ensures.later (λ is. c.in-Err-serve_last.ensures.cause (ap Err is))
+    c.serve_last.ensures.later (λ is. c.in_err-serve_last.ensures.cause (ap Err is)))
 
-pub returns-in-Err-flush-clause-stopped : goal.returns-in-Err-flush-clause-stopped
-returns-in-Err-flush-clause-stopped g c = λ s holds script told.
-    let streams = c.in_default-serve_pieces.ensures.streams in
+pub returns-in-Err-clause-stopped : goal.returns-in-Err-clause-stopped
+returns-in-Err-clause-stopped g c = λ s holds script told.
+    let streams = c.in_ok-serve_pieces.ensures.streams in
     rw c.flush.ensures.bytes
     (stopped_at_end c.args.setting s WriteFault c.serve_pieces.new.held.items _ _ _ _ _ streams.0
     streams.2 streams.1 (λ is. cc) (λ is. cc)
     (λ start m is kept. part_whole _ _ _
-    (c.in_default-serve_last.ensures.ok start m (c.deref.ensures.value ∙ is) kept).written)
+    (c.in_ok-serve_last.ensures.ok start m (c.deref.ensures.value ∙ is) kept).written)
     (record { store = holds; waits = refl }) script told
-    (c.in_default-serve_pieces.ensures.end script told))
+    (c.in_ok-serve_pieces.ensures.end script told))
 
 pub returns-clause-done : goal.returns-clause-done
 returns-clause-done g c = λ s holds script told.
-    let streams = c.in_default-serve_pieces.ensures.streams in
-    let whole = c.in_default-serve_pieces.ensures.end script told in (
+    let streams = c.in_ok-serve_pieces.ensures.streams in
+    let whole = c.in_ok-serve_pieces.ensures.end script told in (
       omega (
         arith,
         length_of_whole c.args.setting _ _ _ _ _ streams.0 streams.2 script told whole,
@@ -66,7 +74,7 @@ returns-clause-done g c = λ s holds script told.
           (finishes c.args.setting s script _ _ _ _
           (served_at_end c.args.setting s c.serve_pieces.new.held.items _ _ _ _ _
           streams.0 streams.2
-          (λ start m is kept. c.in_default-serve_last.ensures.ok start m
+          (λ start m is kept. c.in_ok-serve_last.ensures.ok start m
           (c.deref.ensures.value ∙ is) kept) (record { store = holds; waits = refl })
           script told whole)
           whole (λ bytes is. c.in_default-flush.ensures.ok bytes is)),
@@ -77,13 +85,14 @@ returns-in_default-clause-cause g c =
     cause_of_err NoMemory _ _ _ _ (omega arith) (omega arith) (λ is. absurd (cc))
     (λ is. absurd (cc))
 
+pub returns-in_err-serve_pieces-clause-cause : goal.returns-in_err-serve_pieces-clause-cause
+returns-in_err-serve_pieces-clause-cause g c =
+    let p = err_from_is_err_and c.from_residual.result c.from_residual.ensures.1 in
+    rw (p.1, p.2) (cause_later c.in_err-serve_pieces.field-0.0 _ _ _ _ _ _ (omega arith)
+    (omega arith) c.in_err-serve_pieces.ensures.cause)
+
 pub returns-in-Err-clause-cause : goal.returns-in-Err-clause-cause
 returns-in-Err-clause-cause g c =
-    cause_later c.in-Err.stop _ _ _ _ _ _ (omega arith) (omega arith)
-    (rw c.in-Err.is at c.serve_pieces.ensures.cause)
-
-pub returns-in-Err-flush-clause-cause : goal.returns-in-Err-flush-clause-cause
-returns-in-Err-flush-clause-cause g c =
     cause_of_err WriteFault _ _ _ _ c.serve_pieces.ensures.cause.later_source
     (omega (
       arith,
@@ -93,7 +102,7 @@ returns-in-Err-flush-clause-cause g c =
     )) (λ is. absurd (cc))
     (λ is. omega (
       arith,
-      c.in-Err-flush.ensures.cause,
+      c.in-Err.ensures.cause,
       c.serve_pieces.ensures.cause.later_sink,
       c.serve_last.ensures.later,
     ))
@@ -108,4 +117,4 @@ returns-clause-cause g c = cause_of_ok tt _ _ _ _ c.serve_pieces.ensures.cause.l
     ))
 
 pub returns-clause-kept : goal.returns-clause-kept
-returns-clause-kept g c = state_kept c.in_default-serve_last.ensures.kept
+returns-clause-kept g c = state_kept c.in_ok-serve_last.ensures.kept

@@ -1,5 +1,6 @@
 use Rattle.std.proofs.Common.{◌≡◌, [], take, Some, refl, ap, ◌∙◌, arith}
 use Rattle.std.proofs.lemmas.Grind.{common_steps}
+use Rattle.std.proofs.lemmas.Result.{err_from_is_err_and}
 use Rattle.std.specs.Prelude.{Err}
 use Rattle.gm_program.specs.declared.stop.Stop.TheVariants.{ReadFault, TooLong}
 use Rattle.gm_program.specs.Lines.{complete_from}
@@ -26,16 +27,19 @@ returns-then-n-budget-clause-breaks g c = λ start is. record {
   below_limit = λ other. absurd (other refl);
 }
 
-pub returns-in-Err-clause-breaks : goal.returns-in-Err-clause-breaks
-returns-in-Err-clause-breaks g c = λ start is. record {
+pub returns-in_err-serve_piece-clause-breaks : goal.returns-in_err-serve_piece-clause-breaks
+returns-in_err-serve_piece-clause-breaks g c =
+    let p = err_from_is_err_and c.from_residual.result c.from_residual.ensures.1 in
+    let refusal = c.in_err-serve_piece.field-0.0 in
+    rw p.1 (λ start is. record {
   taken = take c.in-Ok.n c.read.new.into;
   source = λ script told. let gives = c.in-Ok.ensures.bytes script told in
       (gives.rest, gives.parts, gives.stays);
-  part = λ m kept. c.in-Err.ensures.err start m is kept;
-  whole = λ fault. absurd (no_read c.in-Err.refusal c.stop_of.result c.stop_of.ensures fault);
-  at_limit = λ limit. absurd (no_limit c.in-Err.refusal c.stop_of.result c.stop_of.ensures limit);
+  part = λ m kept. c.in_err-serve_piece.ensures.err start m is kept;
+  whole = λ fault. absurd (no_read refusal p.0 p.2 fault);
+  at_limit = λ limit. absurd (no_limit refusal p.0 p.2 limit);
   below_limit = λ _. grind (arith, common_steps);
-}
+})
 
 pub returns-clause-streams : goal.returns-clause-streams
 returns-clause-streams g c = λ start is. record {
@@ -43,8 +47,8 @@ returns-clause-streams g c = λ start is. record {
   count = grind (arith, common_steps);
   source = λ script told. let gives = c.in-Ok.ensures.bytes script told in
       (gives.rest, gives.parts, gives.stays);
-  holds = c.in_default-serve_piece.ensures.held start is;
-  serves = λ m kept. c.in_default-serve_piece.ensures.ok start m is kept;
+  holds = c.in_ok-serve_piece.ensures.held start is;
+  serves = λ m kept. c.in_ok-serve_piece.ensures.ok start m is kept;
 }
 
 pub returns-clause-end : goal.returns-clause-end
@@ -64,11 +68,12 @@ returns-then-n-budget-clause-cause g c =
     cause_of_err TooLong _ _ _ _ c.read.ensures.later (omega arith) (λ is. absurd (cc))
     (λ is. absurd (cc))
 
-pub returns-in-Err-clause-cause : goal.returns-in-Err-clause-cause
-returns-in-Err-clause-cause g c =
-    cause_of_refusal c.in-Err.refusal c.stop_of.result _ _ _ _ _ c.stop_of.ensures
+pub returns-in_err-serve_piece-clause-cause : goal.returns-in_err-serve_piece-clause-cause
+returns-in_err-serve_piece-clause-cause g c =
+    let p = err_from_is_err_and c.from_residual.result c.from_residual.ensures.1 in
+    rw p.1 (cause_of_refusal c.in_err-serve_piece.field-0.0 p.0 _ _ _ _ _ p.2
     c.read.ensures.later (omega arith) c.serve_piece.ensures.later
-    (λ is. c.in-Err.ensures.cause (ap Err is))
+    (λ is. c.in_err-serve_piece.ensures.cause (ap Err is)))
 
 pub returns-clause-cause : goal.returns-clause-cause
 returns-clause-cause g c =

@@ -1,4 +1,5 @@
 use Rattle.std.proofs.Common.{◌+◌, ◌-◌, ◌++◌, take, drop, sym, ap, ◌∙◌, arith}
+use Rattle.std.proofs.lemmas.Result.{err_from_is_err_and}
 use Rattle.gm_base.proofs.Lists.{rest_whole}
 use Rattle.gm_program.specs.Lines.{complete_from, partial_from, cut}
 use Rattle.gm_program.specs.Machine.{after}
@@ -31,21 +32,23 @@ loop-length-preserved g c =
     let whole = part_whole_line piece at n c.in-Some.ensures in
     record {
       inside = part_fits piece at n c.loop-length.invariant.inside c.in-Some.ensures;
-      kept = c.in_default-serve_ended.ensures.kept;
+      kept = c.in_ok-serve_ended.ensures.kept;
       served = λ start m is kept.
           let before = c.loop-length.invariant.served start m is kept in
           serves_more c.args.setting m start (take at piece) part (take (at + (n + 1)) piece) _ _ _
           inside whole before
-          (c.in_default-serve_ended.ensures.ok (partial_from start (take at piece))
+          (c.in_ok-serve_ended.ensures.ok (partial_from start (take at piece))
           (after c.args.setting m (complete_from start (take at piece)))
           (c.loop-length.invariant.held start is) before.keeps);
-      held = λ start is. c.in_default-serve_ended.ensures.held
+      held = λ start is. c.in_ok-serve_ended.ensures.held
           ∙ held_more start (take at piece) part (take (at + (n + 1)) piece) inside whole;
       later = omega (arith, c.loop-length.invariant.later, c.serve_ended.ensures.later);
     }
 
-pub returns-in-Err-clause-err : goal.returns-in-Err-clause-err
-returns-in-Err-clause-err g c = λ start m is kept.
+pub returns-in_err-serve_ended-clause-err : goal.returns-in_err-serve_ended-clause-err
+returns-in_err-serve_ended-clause-err g c =
+    let p = err_from_is_err_and c.from_residual.result c.from_residual.ensures.1 in
+    rw p.1 (λ start m is kept.
     let at = c.loop-length.at in
     let n = c.in-Some.length in
     let piece = c.args.piece.now in
@@ -54,12 +57,12 @@ returns-in-Err-clause-err g c = λ start m is kept.
     part_more c.args.setting m start (take at piece) part piece (drop (at + (n + 1)) piece) _ _ _
     (part_inside piece at n c.in-Some.ensures)
     (part_and_rest piece at n c.in-Some.ensures) before
-    (c.in-Err.ensures.err (partial_from start (take at piece))
+    (c.in_err-serve_ended.ensures.err (partial_from start (take at piece))
     (after c.args.setting m (complete_from start (take at piece)))
-    (c.loop-length.invariant.held start is) before.keeps)
+    (c.loop-length.invariant.held start is) before.keeps))
 
-pub returns-in-Err-hold-clause-err : goal.returns-in-Err-hold-clause-err
-returns-in-Err-hold-clause-err g c = λ start m is kept.
+pub returns-in-Err-clause-err : goal.returns-in-Err-clause-err
+returns-in-Err-clause-err g c = λ start m is kept.
     let at = c.loop-length.at in
     let piece = c.args.piece.now in
     part_all c.args.setting m start at piece _ _ (none_from piece at c.in_default.ensures)

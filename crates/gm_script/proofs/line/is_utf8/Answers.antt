@@ -1,4 +1,5 @@
-use Rattle.std.proofs.Common.{◌≡◌, false, sym, List, ℕ, inl, inr}
+use Rattle.std.proofs.Common.{◌≡◌, ◌∙◌, false, sym, List, ℕ, inl, inr, Result, Ok, Err}
+use Rattle.std.specs.Result.{MatchResult, is_ok}
 use Rattle.std.specs.Str.{is_utf8}
 use Rattle.std.specs.Prelude.{IsUtf8}
 use Rattle.std.proofs.lemmas.Bool.{cases_Bool}
@@ -11,8 +12,13 @@ broken bytes h = elim (cases_Bool (is_utf8 bytes)) [
   | inr e ↦ e
 ]
 
-pub returns-in-Ok : goal.returns-in-Ok
-returns-in-Ok c = sym (is_utf8-from_IsUtf8 c.args.bytes.now c.in-Ok.ensures.cases.1)
+decided : {T E : Type 0} (P : T → Type 0) (Q : E → Type 0) (bytes : List ℕ) (r : Result T E)
+    → MatchResult r (λ x. P x × IsUtf8 bytes) (λ e. (¬ IsUtf8 bytes) × Q e)
+    → is_ok r ≡ is_utf8 bytes
+decided P Q bytes (Ok x) h = sym (is_utf8-from_IsUtf8 bytes h.1)
+decided P Q bytes (Err e) h = sym (broken bytes h.0)
 
-pub returns-in-Err : goal.returns-in-Err
-returns-in-Err c = sym (broken c.args.bytes.now c.in-Err.ensures.cases.0)
+pub returns : goal.returns
+returns c =
+    c.is_ok.ensures.value
+    ∙ decided _ _ c.args.bytes.now c.from_utf8.result c.from_utf8.ensures.cases
