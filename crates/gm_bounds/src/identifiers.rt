@@ -71,10 +71,7 @@ fn meet(alloc: Global, one: IdSet, other: IdSet) -> Result<IdSet, NoMemory>
 }
 
 // What OR makes of two lists, before they are sorted.
-fn join(
-    one: Bound<FeatureId>,
-    other: Bound<FeatureId>,
-) -> Result<Bound<FeatureId>, NoMemory>
+fn join(one: Bound<FeatureId>, other: Bound<FeatureId>) -> Result<Bound<FeatureId>, NoMemory>
     ensures { IfOk result (λ all. all ≡ either one other) }
 {
     match (one, other) {
