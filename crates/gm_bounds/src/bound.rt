@@ -11,12 +11,16 @@ pub enum Bound<T> {
     Listed(Items<T>),
 }
 
+/// The listed boxes.
 pub type BoxList = Items<Box2>;
 
+/// The listed intervals.
 pub type IntervalList = Items<Interval>;
 
+/// The listed ranges of bytes.
 pub type ByteRangeItems = Items<ByteRange>;
 
+/// The listed identifiers.
 pub type IdList = Items<FeatureId>;
 
 /// Boxes of the default geometry.
@@ -28,5 +32,5 @@ pub type Intervals = Bound<Interval>;
 /// Ranges of the lexicoded values of an attribute.
 pub type ByteBounds = Bound<ByteRange>;
 
-/// Identifiers in byte order, each once.
+/// Identifiers of features.
 pub type IdSet = Bound<FeatureId>;

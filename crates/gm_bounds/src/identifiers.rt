@@ -13,32 +13,18 @@ use gm_filter::Filter;
 use std::alloc::Global;
 use std::cmp::Ordering;
 
-/// The identifiers among which that of a feature is of which the filter is true. The recursion is
-/// as deep as the filter.
+/// The identifiers among which that of a feature is of which the filter is true, in byte order and
+/// each once. The recursion is as deep as the filter.
 #[cycle(identifying)]
 pub fn ids(alloc: Global, filter: &Filter) -> Result<IdSet, NoMemory>
     ensures { IfOk result (λ ids. ids ≡ ids_of (tree filter.now)) }
 {
     match filter {
-        Filter::Include => Ok(Bound::World),
         Filter::Exclude => Ok(Bound::Listed(Items::new(alloc))),
-        Filter::Not(_) => Ok(Bound::World),
         Filter::And(members) => ids_in_all(alloc, members),
         Filter::Or(members) => sorted(ids_in_any(alloc, members)?),
         Filter::Ids(texts) => Ok(Bound::Listed(identifiers(alloc, texts.as_slice())?)),
-        Filter::Compare(_, _, _) => Ok(Bound::World),
-        Filter::Between(_, _, _) => Ok(Bound::World),
-        Filter::Like(_, _) => Ok(Bound::World),
-        Filter::OneOf(_, _) => Ok(Bound::World),
-        Filter::IsNull(_) => Ok(Bound::World),
-        Filter::Bbox(_, _) => Ok(Bound::World),
-        Filter::Intersects(_, _) => Ok(Bound::World),
-        Filter::Disjoint(_, _) => Ok(Bound::World),
-        Filter::Within(_, _) => Ok(Bound::World),
-        Filter::During(_, _, _) => Ok(Bound::World),
-        Filter::Before(_, _) => Ok(Bound::World),
-        Filter::After(_, _) => Ok(Bound::World),
-        Filter::Tequals(_, _) => Ok(Bound::World),
+        _ => Ok(Bound::World),
     }
 }
 
@@ -55,8 +41,9 @@ fn ids_in_all(alloc: Global, filters: &[Filter]) -> Result<IdSet, NoMemory>
     Ok(found)
 }
 
+// What the members list, not yet sorted.
 #[cycle(identifying)]
-fn ids_in_any(alloc: Global, filters: &[Filter]) -> Result<IdSet, NoMemory>
+fn ids_in_any(alloc: Global, filters: &[Filter]) -> Result<Bound<FeatureId>, NoMemory>
     ensures { IfOk result (λ ids. ids ≡ any_of id_rules nowhere (trees_of (map tree filters.now))) }
 {
     let mut found = Bound::Listed(Items::new(alloc));
@@ -83,8 +70,8 @@ fn meet(alloc: Global, one: IdSet, other: IdSet) -> Result<IdSet, NoMemory>
     }
 }
 
-// What OR makes of two sets, before they are sorted.
-fn join(one: IdSet, other: IdSet) -> Result<IdSet, NoMemory>
+// What OR makes of two lists, before they are sorted.
+fn join(one: Bound<FeatureId>, other: Bound<FeatureId>) -> Result<Bound<FeatureId>, NoMemory>
     ensures { IfOk result (λ all. all ≡ either one other) }
 {
     match (one, other) {
@@ -98,7 +85,7 @@ fn join(one: IdSet, other: IdSet) -> Result<IdSet, NoMemory>
     }
 }
 
-fn sorted(found: IdSet) -> Result<IdSet, NoMemory>
+fn sorted(found: Bound<FeatureId>) -> Result<IdSet, NoMemory>
     ensures { IfOk result (λ ids. ids ≡ spec.sorted_bound found) }
 {
     match found {

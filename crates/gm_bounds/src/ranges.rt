@@ -24,6 +24,7 @@ pub enum Range {
     All,
 }
 
+/// Ranges of the keys of one index.
 pub type RangeList = Items<Range>;
 
 /// The ranges of an index that a query reads, each of them in every shard.

@@ -51,25 +51,13 @@ fn boxes_in(alloc: Global, filter: &Filter, at: u16, points: bool) -> Result<Box
     ensures { IfOk result (λ boxes. boxes ≡ bound_of (box_rules at points) (tree filter.now)) }
 {
     match filter {
-        Filter::Include => Ok(Bound::World),
         Filter::Exclude => Ok(Bound::Listed(Items::new(alloc))),
-        Filter::Not(_) => Ok(Bound::World),
         Filter::And(members) => boxes_in_all(alloc, members, at, points),
         Filter::Or(members) => counted(alloc, boxes_in_any(alloc, members, at, points)?),
         Filter::Bbox(tested, area) => box_on(alloc, *tested, at, *area),
         Filter::Intersects(tested, geometry) => extent_on(alloc, *tested, at, geometry),
         Filter::Within(tested, area) => extent_on(alloc, *tested, at, area),
-        Filter::Compare(_, _, _) => Ok(Bound::World),
-        Filter::Between(_, _, _) => Ok(Bound::World),
-        Filter::Like(_, _) => Ok(Bound::World),
-        Filter::OneOf(_, _) => Ok(Bound::World),
-        Filter::IsNull(_) => Ok(Bound::World),
-        Filter::Ids(_) => Ok(Bound::World),
-        Filter::Disjoint(_, _) => Ok(Bound::World),
-        Filter::During(_, _, _) => Ok(Bound::World),
-        Filter::Before(_, _) => Ok(Bound::World),
-        Filter::After(_, _) => Ok(Bound::World),
-        Filter::Tequals(_, _) => Ok(Bound::World),
+        _ => Ok(Bound::World),
     }
 }
 

@@ -34,9 +34,7 @@ fn intervals_in(alloc: Global, filter: &Filter, at: u16) -> Result<Intervals, No
         ≡ bound_of (interval_rules at) (tree filter.now)) }
 {
     match filter {
-        Filter::Include => Ok(Bound::World),
         Filter::Exclude => Ok(Bound::Listed(Items::new(alloc))),
-        Filter::Not(_) => Ok(Bound::World),
         Filter::And(members) => intervals_in_all(alloc, members, at),
         Filter::Or(members) => counted(alloc, intervals_in_any(alloc, members, at)?),
         Filter::Compare(tested, op, literal) if *tested == at => compared(alloc, *op, literal),

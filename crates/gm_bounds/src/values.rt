@@ -52,9 +52,7 @@ fn ranges_in(alloc: Global, filter: &Filter, at: u16, kind: Kind) -> Result<Byte
     ensures { IfOk result (λ ranges. ranges ≡ bound_of (range_rules at kind) (tree filter.now)) }
 {
     match filter {
-        Filter::Include => Ok(Bound::World),
         Filter::Exclude => Ok(Bound::Listed(Items::new(alloc))),
-        Filter::Not(_) => Ok(Bound::World),
         Filter::And(members) => ranges_in_all(alloc, members, at, kind),
         Filter::Or(members) => counted(alloc, ranges_in_any(alloc, members, at, kind)?),
         Filter::Compare(tested, op, literal) if *tested == at => {
@@ -139,11 +137,7 @@ fn compared_none(alloc: Global, op: Op) -> Result<ByteBounds, NoMemory>
 {
     match op {
         Op::Eq => Ok(Bound::Listed(Items::new(alloc))),
-        Op::Ne => Ok(Bound::World),
-        Op::Lt => Ok(Bound::World),
-        Op::Le => Ok(Bound::World),
-        Op::Gt => Ok(Bound::World),
-        Op::Ge => Ok(Bound::World),
+        _ => Ok(Bound::World),
     }
 }
 

@@ -31,18 +31,26 @@ use Rattle.gm_keys.proofs.Apart.{indexed_within}
 use Rattle.gm_keys.specs.Key.{index_number, attribute_number, prefix_of, code_front, bin_front}
 use Rattle.gm_keys.specs.Key.{bin_code_front}
 
+-- A front as long as a high end tells whether bytes are below the end.
+abbrev pub HighFronts : Type 0
+HighFronts = (high other : List ℕ) → All (λ byte. byte < 256) (take (length high) other)
+    → is_before (after_of high) other ≡ is_le (slice_cmp nat_cmp (take (length high) other) high)
+
+-- A front that two lists share does not count.
+abbrev pub SharedFronts : Type 0
+SharedFronts = (front a b : List ℕ)
+    → slice_cmp nat_cmp (front ++ a) (front ++ b) ≡ slice_cmp nat_cmp a b
+
 -- what is known of the order of bytes
 pub record Order : Type 0 where
   pub low : (low other : List ℕ)
       → is_le (slice_cmp nat_cmp low other)
       ≡ is_le (slice_cmp nat_cmp low (take (length low) other))
-  pub high : (high other : List ℕ) → All (λ byte. byte < 256) (take (length high) other)
-      → is_before (after_of high) other ≡ is_le (slice_cmp nat_cmp (take (length high) other) high)
+  pub high : HighFronts
   pub numbers : (width a b : ℕ) (s t : List ℕ) → a < 256 ^ width → b < 256 ^ width
       → slice_cmp nat_cmp (big_bytes width a ++ s) (big_bytes width b ++ t)
       ≡ ordering_then (nat_cmp a b) (slice_cmp nat_cmp s t)
-  pub shared : (front a b : List ℕ)
-      → slice_cmp nat_cmp (front ++ a) (front ++ b) ≡ slice_cmp nat_cmp a b
+  pub shared : SharedFronts
 
 abbrev pub AreBytes : List ℕ → Type 0
 AreBytes bytes = All (λ byte. byte < 256) bytes
@@ -217,25 +225,26 @@ in_bin order t kind s o bin at a b c id small fits-bin fits-at fits-a fits-b fit
     && (low_number order 8 a c id fits-a fits-c i && high_number order 8 c b fits-c fits-b i)))
 
 -- ---- values and identifiers
-pub in_values : Order → (prefix low high rest : List ℕ)
+pub in_values : SharedFronts → (prefix low high rest : List ℕ)
     → is_from_to (prefix ++ low) (Some (prefix ++ high)) (prefix ++ rest)
     ≡ is_from_to low (Some high) rest
-in_values order prefix low high rest =
-    λ i. is_le (order.shared prefix low rest i) && not (is_le (order.shared prefix high rest i))
+in_values shared prefix low high rest =
+    λ i. is_le (shared prefix low rest i) && not (is_le (shared prefix high rest i))
 
-pub to_the_end : Order → (t : Specification) (kind : IndexKind) (low rest : List ℕ)
+pub to_the_end : HighFronts → SharedFronts
+    → (t : Specification) (kind : IndexKind) (low rest : List ℕ)
     → is_from_to (prefix_of t kind ++ low) (after_of (prefix_of t kind)) (prefix_of t kind ++ rest)
     ≡ is_le (slice_cmp nat_cmp low rest)
-to_the_end order t kind low rest =
+to_the_end high_fronts shared t kind low rest =
     let prefix = prefix_of t kind in
     let front : take (length prefix) (prefix ++ rest) ≡ prefix =
     take_at prefix rest (length prefix) refl in
     let high : is_before (after_of prefix) (prefix ++ rest) ≡ true =
-    order.high prefix (prefix ++ rest)
+    high_fronts prefix (prefix ++ rest)
     (subst (λ (b : List ℕ). AreBytes b) (sym front) (prefix_is_bytes t kind))
     ∙ ap (λ k. is_le (slice_cmp nat_cmp k prefix)) front
     ∙ ap is_le (tied_itself nat_list_cmp_total prefix) in
-    (λ i. is_le (order.shared prefix low rest i) && high i)
+    (λ i. is_le (shared prefix low rest i) && high i)
     ∙ and_true (is_le (slice_cmp nat_cmp low rest))
 
 pub one_key : (key other : List ℕ)

@@ -20,10 +20,11 @@ use gm_feature::{Feature, Value};
 use gm_types::{FeatureType, IndexKind, types_hold_together};
 use std::alloc::Global;
 
-// How many bytes a shard and a code have, and those with a bin.
-const CODE_LENGTH: usize = 9;
+/// How many bytes a shard and a code have.
+pub(crate) const CODE_LENGTH: usize = 9;
 
-const BIN_CODE_LENGTH: usize = 11;
+/// How many bytes a shard, a bin and a code have.
+pub(crate) const BIN_CODE_LENGTH: usize = 11;
 
 /// The key of a feature in an index of its type: the number of the type in two bytes, that of the
 /// index in one, what the index puts before the identifier, and the identifier. None where a value
@@ -77,60 +78,52 @@ fn z2_key(alloc: Global, of: &FeatureType, feature: &Feature) -> Result<Option<B
     requires { Fits of.now feature.now }
     ensures { IfOk result (λ key. key ≡ spec.key_of of.now Z2 feature.now) }
 {
-    match point_in(of, feature) {
-        Some(point) => {
-            let code = z2_code(of.z2_bits(), point);
-            Ok(Some(code_key(alloc, of, IndexKind::Z2, &feature.id, code)?))
-        }
-        None => Ok(None),
-    }
+    let Some(point) = point_in(of, feature) else {
+        return Ok(None);
+    };
+    let code = z2_code(of.z2_bits(), point);
+    Ok(Some(code_key(alloc, of, IndexKind::Z2, &feature.id, code)?))
 }
 
 fn z3_key(alloc: Global, of: &FeatureType, feature: &Feature) -> Result<Option<Bytes>, NoMemory>
     requires { Fits of.now feature.now }
     ensures { IfOk result (λ key. key ≡ spec.key_of of.now Z3 feature.now) }
 {
-    match point_in(of, feature) {
-        Some(point) => match bin_in(of, feature) {
-            Some(bin) => {
-                let code = z3_code(of.period(), of.z3_bits(), point, bin.offset);
-                let key = bin_code_key(alloc, of, IndexKind::Z3, &feature.id, bin.number, code)?;
-                Ok(Some(key))
-            }
-            None => Ok(None),
-        },
-        None => Ok(None),
-    }
+    let Some(point) = point_in(of, feature) else {
+        return Ok(None);
+    };
+    let Some(bin) = bin_in(of, feature) else {
+        return Ok(None);
+    };
+    let code = z3_code(of.period(), of.z3_bits(), point, bin.offset);
+    let key = bin_code_key(alloc, of, IndexKind::Z3, &feature.id, bin.number, code)?;
+    Ok(Some(key))
 }
 
 fn xz2_key(alloc: Global, of: &FeatureType, feature: &Feature) -> Result<Option<Bytes>, NoMemory>
     requires { Fits of.now feature.now }
     ensures { IfOk result (λ key. key ≡ spec.key_of of.now Xz2 feature.now) }
 {
-    match box_in(of, feature) {
-        Some(extent) => {
-            let code = xz2_code(of.precision(), extent);
-            Ok(Some(code_key(alloc, of, IndexKind::Xz2, &feature.id, code)?))
-        }
-        None => Ok(None),
-    }
+    let Some(extent) = box_in(of, feature) else {
+        return Ok(None);
+    };
+    let code = xz2_code(of.precision(), extent);
+    Ok(Some(code_key(alloc, of, IndexKind::Xz2, &feature.id, code)?))
 }
 
 fn xz3_key(alloc: Global, of: &FeatureType, feature: &Feature) -> Result<Option<Bytes>, NoMemory>
     requires { Fits of.now feature.now }
     ensures { IfOk result (λ key. key ≡ spec.key_of of.now Xz3 feature.now) }
 {
-    match box_in(of, feature) {
-        Some(extent) => match bin_in(of, feature) {
-            Some(bin) => {
-                let code = xz3_code(of.period(), of.precision(), extent, bin.offset);
-                let key = bin_code_key(alloc, of, IndexKind::Xz3, &feature.id, bin.number, code)?;
-                Ok(Some(key))
-            }
-            None => Ok(None),
-        },
-        None => Ok(None),
-    }
+    let Some(extent) = box_in(of, feature) else {
+        return Ok(None);
+    };
+    let Some(bin) = bin_in(of, feature) else {
+        return Ok(None);
+    };
+    let code = xz3_code(of.period(), of.precision(), extent, bin.offset);
+    let key = bin_code_key(alloc, of, IndexKind::Xz3, &feature.id, bin.number, code)?;
+    Ok(Some(key))
 }
 
 fn value_key(
@@ -158,16 +151,14 @@ fn form_key(
     requires { is_sound value.now ≡ true }
     ensures { IfOk result (λ key. key ≡ spec.value_key of.now attribute id.now value.now) }
 {
-    match form_length(value) {
-        Some(length) => {
-            let rest = length + id.as_bytes().len();
-            let mut key = begun(alloc, of, IndexKind::Attr(attribute), rest)?;
-            put_form(alloc, &mut key, value)?;
-            key.append(id.as_bytes())?;
-            Ok(Some(key))
-        }
-        None => Ok(None),
-    }
+    let Some(length) = form_length(value) else {
+        return Ok(None);
+    };
+    let rest = length + id.as_bytes().len();
+    let mut key = begun(alloc, of, IndexKind::Attr(attribute), rest)?;
+    put_form(alloc, &mut key, value)?;
+    key.append(id.as_bytes())?;
+    Ok(Some(key))
 }
 
 // A key with a shard and a code.

@@ -11,7 +11,7 @@ ghost use Rattle.gm_types.specs.declared.kind.Kind.TheVariants.{Text, Integer, L
 ghost use Rattle.gm_keys.specs.Key as spec;
 ghost use Rattle.gm_keys.specs.Layout.{IsForm, IsFormAt, IsMiddle, IsLaidOut, IsIdAt};
 
-use crate::key::index_number;
+use crate::key::{BIN_CODE_LENGTH, CODE_LENGTH, index_number};
 use byteorder::{BigEndian, ByteOrder};
 use gm_lexi::{get_bool, get_date, get_int, get_long, get_text};
 use gm_types::{FeatureType, IndexKind, Kind};
@@ -101,8 +101,8 @@ fn after_middle<'a>(of: &FeatureType, kind: IndexKind, bytes: &'a [u8]) -> Optio
 {
     match kind {
         IndexKind::Id => Some(bytes),
-        IndexKind::Z2 | IndexKind::Xz2 => after(bytes, 9),
-        IndexKind::Z3 | IndexKind::Xz3 => after(bytes, 11),
+        IndexKind::Z2 | IndexKind::Xz2 => after(bytes, CODE_LENGTH),
+        IndexKind::Z3 | IndexKind::Xz3 => after(bytes, BIN_CODE_LENGTH),
         IndexKind::Attr(attribute) => match of.attributes().as_slice().get(usize::from(attribute)) {
             Some(found) => after_form(found.kind, bytes),
             None => None,
@@ -155,10 +155,8 @@ fn text_length(bytes: &[u8]) -> Option<usize>
     ensures only { (form rest : List ℕ) → IsForm (Some Text) form
         → bytes.now ≡ form ++ rest → result ≡ Some (length form) }
 {
-    match get_text(bytes) {
-        Some(length) => Some(length + 1),
-        None => None,
-    }
+    let length = get_text(bytes)?;
+    Some(length + 1)
 }
 
 fn int_length(bytes: &[u8]) -> Option<usize>
@@ -166,10 +164,8 @@ fn int_length(bytes: &[u8]) -> Option<usize>
     ensures only { (form rest : List ℕ) → IsForm (Some Integer) form
         → bytes.now ≡ form ++ rest → result ≡ Some (length form) }
 {
-    match get_int(bytes) {
-        Some((_, length)) => Some(length),
-        None => None,
-    }
+    let (_, length) = get_int(bytes)?;
+    Some(length)
 }
 
 fn long_length(bytes: &[u8]) -> Option<usize>
@@ -177,10 +173,8 @@ fn long_length(bytes: &[u8]) -> Option<usize>
     ensures only { (form rest : List ℕ) → IsForm (Some Long) form
         → bytes.now ≡ form ++ rest → result ≡ Some (length form) }
 {
-    match get_long(bytes) {
-        Some((_, length)) => Some(length),
-        None => None,
-    }
+    let (_, length) = get_long(bytes)?;
+    Some(length)
 }
 
 fn bool_length(bytes: &[u8]) -> Option<usize>
@@ -188,10 +182,8 @@ fn bool_length(bytes: &[u8]) -> Option<usize>
     ensures only { (form rest : List ℕ) → IsForm (Some Boolean) form
         → bytes.now ≡ form ++ rest → result ≡ Some (length form) }
 {
-    match get_bool(bytes) {
-        Some((_, length)) => Some(length),
-        None => None,
-    }
+    let (_, length) = get_bool(bytes)?;
+    Some(length)
 }
 
 fn date_length(bytes: &[u8]) -> Option<usize>
@@ -199,10 +191,8 @@ fn date_length(bytes: &[u8]) -> Option<usize>
     ensures only { (form rest : List ℕ) → IsForm (Some Date) form
         → bytes.now ≡ form ++ rest → result ≡ Some (length form) }
 {
-    match get_date(bytes) {
-        Some((_, length)) => Some(length),
-        None => None,
-    }
+    let (_, length) = get_date(bytes)?;
+    Some(length)
 }
 
 // Whether the bytes are an identifier.
@@ -218,9 +208,7 @@ fn is_identifier(bytes: &[u8]) -> bool
 fn has_identifier_form(bytes: &[u8]) -> bool
     ensures { result ≡ has_form bytes.now }
 {
-    let fits = bytes.len() <= IDENTIFIER_LIMIT;
-    let some = !bytes.is_empty();
-    some && fits && are_printable(bytes)
+    !bytes.is_empty() && bytes.len() <= IDENTIFIER_LIMIT && are_printable(bytes)
 }
 
 // Whether no byte is a control character.

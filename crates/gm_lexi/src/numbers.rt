@@ -79,11 +79,7 @@ pub fn get_date(from: &[u8]) -> Option<(Instant, usize)>
     ensures only { (value : ℤ) (rest : List ℕ) → IsInstant value
         → from.now ≡ date_bytes value ++ rest → result ≡ Some (value, 8) }
 {
-    match get_long(from) {
-        Some((ms, length)) => match Instant::of(ms) {
-            Some(at) => Some((at, length)),
-            None => None,
-        },
-        None => None,
-    }
+    let (ms, length) = get_long(from)?;
+    let at = Instant::of(ms)?;
+    Some((at, length))
 }

@@ -14,13 +14,11 @@ pub fn put_text(_alloc: Global, into: &mut Bytes, value: &Text) -> Result<(), No
     ensures err { OnErr result (into.new ≡ into.old) }
 {
     let length = into.len();
-    match put_ended(into, value.as_bytes()) {
-        Ok(()) => Ok(()),
-        Err(NoMemory) => {
-            into.truncate(length);
-            Err(NoMemory)
-        }
+    if let Err(error) = put_ended(into, value.as_bytes()) {
+        into.truncate(length);
+        return Err(error);
     }
+    Ok(())
 }
 
 // Appends the bytes and a 0, or after an error perhaps the bytes alone.
@@ -40,8 +38,6 @@ pub fn get_text(from: &[u8]) -> Option<usize>
         → from.now ≡ text_bytes text ++ rest → result ≡ Some (length text) }
 {
     let end = memchr(0, from)?;
-    match str::from_utf8(&from[..end]) {
-        Ok(_) => Some(end),
-        Err(_) => None,
-    }
+    str::from_utf8(&from[..end]).ok()?;
+    Some(end)
 }

@@ -1,4 +1,4 @@
-// How a reach lies to windows.
+// Windows, and where a reach lies among them.
 ghost use Rattle.std.specs.Prelude.{◌≡◌, ◌≤◌, length};
 ghost use Rattle.gm_trees.specs.Tree.{IsNotPast};
 ghost use Rattle.gm_split.specs.Windows.{overlaps, is_within};
@@ -22,7 +22,7 @@ fn overlaps<const D: usize>(reach: &(Node3, Node3), window: &Window) -> bool
     let x = reach.0.x <= window.high.x && window.low.x <= reach.1.x;
     let y = reach.0.y <= window.high.y && window.low.y <= reach.1.y;
     let t = D != 3 || reach.0.t <= window.high.t && window.low.t <= reach.1.t;
-    x & (y & t)
+    x && y && t
 }
 
 // Whether the reach is inside the window in each dimension.
@@ -32,7 +32,7 @@ fn is_within<const D: usize>(reach: &(Node3, Node3), window: &Window) -> bool
     let x = window.low.x <= reach.0.x && reach.1.x <= window.high.x;
     let y = window.low.y <= reach.0.y && reach.1.y <= window.high.y;
     let t = D != 3 || window.low.t <= reach.0.t && reach.1.t <= window.high.t;
-    x & (y & t)
+    x && y && t
 }
 
 /// How a reach lies to the windows, of which it overlaps none but those whose bits are set in

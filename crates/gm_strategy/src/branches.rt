@@ -40,24 +40,7 @@ fn gather<'a>(into: &mut Vec<&'a Filter>, filter: &'a Filter) -> Result<(), NoMe
 {
     match filter {
         Filter::Or(members) => gather_all(into, members),
-        Filter::Include => add(into, filter),
-        Filter::Exclude => add(into, filter),
-        Filter::Not(_) => add(into, filter),
-        Filter::And(_) => add(into, filter),
-        Filter::Compare(_, _, _) => add(into, filter),
-        Filter::Between(_, _, _) => add(into, filter),
-        Filter::Like(_, _) => add(into, filter),
-        Filter::OneOf(_, _) => add(into, filter),
-        Filter::IsNull(_) => add(into, filter),
-        Filter::Ids(_) => add(into, filter),
-        Filter::Bbox(_, _) => add(into, filter),
-        Filter::Intersects(_, _) => add(into, filter),
-        Filter::Disjoint(_, _) => add(into, filter),
-        Filter::Within(_, _) => add(into, filter),
-        Filter::During(_, _, _) => add(into, filter),
-        Filter::Before(_, _) => add(into, filter),
-        Filter::After(_, _) => add(into, filter),
-        Filter::Tequals(_, _) => add(into, filter),
+        _ => add(into, filter),
     }
 }
 

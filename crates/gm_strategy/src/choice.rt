@@ -36,12 +36,16 @@ pub(crate) fn choice_for(
     ensures { IfOk result (λ choice. choice ≡ spec.choice_of of.now (tree filter.now)) }
 {
     let enabled = enabled_indexes(alloc, of)?;
+    let ids_cost = cost_of_ids(alloc, filter)?;
     let mut held = Choice {
         kind: IndexKind::Id,
-        cost: cost_of_ids(alloc, filter)?,
+        cost: ids_cost,
     };
     'kinds: for kind in enabled.as_slice() {
-        let cost = cost_of(alloc, of, *kind, filter)?;
+        let cost = match *kind {
+            IndexKind::Id => Some(ids_cost),
+            other => cost_of(alloc, of, other, filter)?,
+        };
         held = cheaper(held, *kind, cost);
     }
     Ok(held)
@@ -51,11 +55,7 @@ fn cheaper(held: Choice, kind: IndexKind, cost: Option<u8>) -> Choice
     ensures { result ≡ spec.cheaper held kind cost }
 {
     match cost {
-        None => held,
-        Some(cost) => if cost < held.cost {
-            Choice { kind, cost }
-        } else {
-            held
-        },
+        Some(cost) if cost < held.cost => Choice { kind, cost },
+        _ => held,
     }
 }
