@@ -4,15 +4,7 @@ use Rattle.std.proofs.Common.{length, refl, sym, ◌∙◌, arith}
 use Rattle.std.proofs.lemmas.Bool.{both_ways, false_from_ne_true}
 use Rattle.std.specs.Prelude.{T}
 
-pub both_of : (a b : Bool) → (a && b) ≡ true → (a ≡ true) × (b ≡ true)
-both_of true b passed = (refl, passed)
-both_of false b passed = absurd (cc)
-
-pub both_from : (a b : Bool) → a ≡ true → b ≡ true → (a && b) ≡ true
-both_from true b one other = other
-both_from false b one other = cc
-
--- the same of the facts that tests passed
+-- the parts of a fact that two tests passed
 pub both_of-T : (a b : Bool) → T (a && b) → (T a) × (T b)
 both_of-T true b passed = (tt, passed)
 both_of-T false b passed = absurd passed

@@ -6,8 +6,9 @@ use Rattle.std.specs.Prelude.{ℤ, IsSome}
 use Rattle.std.specs.List.{list_all, prefix_len}
 use Rattle.std.specs.Char.{is_ascii_digit}
 use Rattle.std.proofs.lemmas.Bool.Decides.{nat_tests}
+use Rattle.std.proofs.lemmas.Bool.{and_parts}
 use Rattle.gm_base.proofs.Lists.{take_front, drop_front}
-use Rattle.gm_base.proofs.Booleans.{both_of, neither_of}
+use Rattle.gm_base.proofs.Booleans.{neither_of}
 use Rattle.gm_geom.specs.Number.{number_of}
 use Rattle.gm_calendar.specs.Spelling.{instant_of, has_date_form, is_instant_byte}
 use Rattle.gm_ecql.specs.declared.token.Symbol.{Symbol}
@@ -47,9 +48,9 @@ word_byte_ascii b e = grind (arith, nat_tests)
 pub word_ascii : (bs : List ℕ) → list_all is_word_byte bs ≡ true → (i : ℕ) → slice_index bs i < 128
 word_ascii [] all i = omega arith
 word_ascii (b ∷ bs) all zero =
-    word_byte_ascii b (both_of (is_word_byte b) (list_all is_word_byte bs) all).0
+    word_byte_ascii b (and_parts (is_word_byte b) (list_all is_word_byte bs) all).0
 word_ascii (b ∷ bs) all (suc i) =
-    word_ascii bs (both_of (is_word_byte b) (list_all is_word_byte bs) all).1 i
+    word_ascii bs (and_parts (is_word_byte b) (list_all is_word_byte bs) all).1 i
 
 word_found : (b : ℕ) (bs rest : List ℕ) → is_word_start b ≡ true
     → list_all is_word_byte (b ∷ bs) ≡ true → Stops is_word_byte rest

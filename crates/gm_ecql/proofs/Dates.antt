@@ -5,7 +5,7 @@ use Rattle.std.proofs.Common.{refl, sym, ap, ◌∙◌, subst, arith, eqb-true}
 use Rattle.std.specs.List.{list_all, prefix_len}
 use Rattle.std.specs.Char.{is_ascii_digit}
 use Rattle.std.proofs.lemmas.Bool.Decides.{nat_tests}
-use Rattle.gm_base.proofs.Booleans.{both_of, both_from}
+use Rattle.std.proofs.lemmas.Bool.{and_parts, and_from}
 use Rattle.gm_calendar.specs.Spelling.{has_date_form, is_instant_byte}
 use Rattle.gm_ecql.specs.Token.{Starts}
 
@@ -23,20 +23,20 @@ dash_is b e = subst (λ z. is_instant_byte z ≡ true) (sym (eqb-true b 45 e)) r
 ten_long : (s : List ℕ) → has_date_form s ≡ true → length s ≡ 10
 ten_long s is =
     eqb-true (length s) 10
-    (both_of (length s == 10) _
-    (both_of ((length s == 10) && ((slice_index s 4 == 45) && (slice_index s 7 == 45))) _
+    (and_parts (length s == 10) _
+    (and_parts ((length s == 10) && ((slice_index s 4 == 45) && (slice_index s 7 == 45))) _
     is).0).0
 
 -- of two tests in a row
 first_two : (p : ℕ → Bool) (x y : ℕ) → list_all p (x ∷ y ∷ []) ≡ true → (p x ≡ true) × (p y ≡ true)
-first_two p x y e = let k = both_of (p x) (list_all p (y ∷ [])) e in
-    (k.0, (both_of (p y) true k.1).0)
+first_two p x y e = let k = and_parts (p x) (list_all p (y ∷ [])) e in
+    (k.0, (and_parts (p y) true k.1).0)
 
 first_four : (p : ℕ → Bool) (x y z w : ℕ) → list_all p (x ∷ y ∷ z ∷ w ∷ []) ≡ true
     → (p x ≡ true) × (p y ≡ true) × (p z ≡ true) × (p w ≡ true)
 first_four p x y z w e =
-    let k = both_of (p x) (list_all p (y ∷ z ∷ w ∷ [])) e in
-    let l = both_of (p y) (list_all p (z ∷ w ∷ [])) k.1 in
+    let k = and_parts (p x) (list_all p (y ∷ z ∷ w ∷ [])) e in
+    let l = and_parts (p y) (list_all p (z ∷ w ∷ [])) k.1 in
     let m = first_two p z w l.1 in
     (k.0, l.0, m.0, m.1)
 
@@ -57,29 +57,29 @@ date_shape (a ∷ b ∷ c ∷ d ∷ e ∷ f ∷ g ∷ h ∷ []) is =
 date_shape (a ∷ b ∷ c ∷ d ∷ e ∷ f ∷ g ∷ h ∷ i ∷ []) is =
     absurd (omega (arith, ten_long (a ∷ b ∷ c ∷ d ∷ e ∷ f ∷ g ∷ h ∷ i ∷ []) is))
 date_shape (a ∷ b ∷ c ∷ d ∷ e ∷ f ∷ g ∷ h ∷ i ∷ j ∷ []) is =
-    let front = both_of ((e == 45) && (h == 45))
+    let front = and_parts ((e == 45) && (h == 45))
     ((list_all is_ascii_digit (a ∷ b ∷ c ∷ d ∷ []) && list_all is_ascii_digit (f ∷ g ∷ []))
     && list_all is_ascii_digit (i ∷ j ∷ [])) is in
-    let dash = both_of (e == 45) (h == 45) front.0 in
-    let runs = both_of
+    let dash = and_parts (e == 45) (h == 45) front.0 in
+    let runs = and_parts
     (list_all is_ascii_digit (a ∷ b ∷ c ∷ d ∷ []) && list_all is_ascii_digit (f ∷ g ∷ []))
     (list_all is_ascii_digit (i ∷ j ∷ [])) front.1 in
-    let run = both_of (list_all is_ascii_digit (a ∷ b ∷ c ∷ d ∷ []))
+    let run = and_parts (list_all is_ascii_digit (a ∷ b ∷ c ∷ d ∷ []))
     (list_all is_ascii_digit (f ∷ g ∷ [])) runs.0 in
     let year = first_four is_ascii_digit a b c d run.0 in
     let month = first_two is_ascii_digit f g run.1 in
     let day = first_two is_ascii_digit i j runs.1 in
     record {
       len = refl;
-      all = both_from _ _ (digit_is a year.0)
-          (both_from _ _ (digit_is b year.1)
-          (both_from _ _ (digit_is c year.2)
-          (both_from _ _ (digit_is d year.3)
-          (both_from _ _ (dash_is e dash.0)
-          (both_from _ _ (digit_is f month.0)
-          (both_from _ _ (digit_is g month.1)
-          (both_from _ _ (dash_is h dash.1)
-          (both_from _ _ (digit_is i day.0) (both_from _ _ (digit_is j day.1) refl)))))))));
+      all = and_from _ _ (digit_is a year.0)
+          (and_from _ _ (digit_is b year.1)
+          (and_from _ _ (digit_is c year.2)
+          (and_from _ _ (digit_is d year.3)
+          (and_from _ _ (dash_is e dash.0)
+          (and_from _ _ (digit_is f month.0)
+          (and_from _ _ (digit_is g month.1)
+          (and_from _ _ (dash_is h dash.1)
+          (and_from _ _ (digit_is i day.0) (and_from _ _ (digit_is j day.1) refl)))))))));
       starts = year.0;
     }
 date_shape (a ∷ b ∷ c ∷ d ∷ e ∷ f ∷ g ∷ h ∷ i ∷ j ∷ k ∷ rest) is =
@@ -99,7 +99,7 @@ take_run : (test : ℕ → Bool) (k : ℕ) (s : List ℕ) → list_all test (tak
 take_run test zero s all = refl
 take_run test (suc k) [] all = refl
 take_run test (suc k) (b ∷ s) all =
-    let each = both_of (test b) (list_all test (take k s)) all in
+    let each = and_parts (test b) (list_all test (take k s)) all in
     ap (λ t. take (suc k) (take (cond t (1 + prefix_len test s) 0) (b ∷ s))) each.0
     ∙ ap (λ n. take (suc k) (take n (b ∷ s))) (more (prefix_len test s))
     ∙ ap (λ z. b ∷ z) (take_run test k s each.1)

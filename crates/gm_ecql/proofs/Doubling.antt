@@ -3,7 +3,7 @@ use Rattle.std.proofs.Common.{◌≡◌, ℕ, true, false, ◌==◌, cond, List,
 use Rattle.std.proofs.Common.{encode_utf8_all, IsUtf8, chars, append-nil, refl, sym, ap, ◌∙◌}
 use Rattle.std.specs.Str.{all_scalars}
 use Rattle.std.proofs.lemmas.Str.{encodes-chars}
-use Rattle.gm_base.proofs.Booleans.{both_from, both_of}
+use Rattle.std.proofs.lemmas.Bool.{and_parts, and_from}
 use Rattle.gm_ecql.specs.Token.{doubled}
 use Rattle.gm_ecql.proofs.Undoubling.{QuoteFree, free_char, quote_char, quote_first}
 
@@ -31,9 +31,9 @@ doubled_scalars : (cs : List ℕ) → all_scalars cs ≡ true → all_scalars (d
 doubled_scalars [] s = refl
 doubled_scalars (c ∷ cs) s =
     elim (c == 39) as (λ x. all_scalars (cond x (39 ∷ 39 ∷ doubled cs) (c ∷ doubled cs)) ≡ true) [
-      | true ↦ doubled_scalars cs (both_of _ (all_scalars cs) s).1
-      | false ↦ both_from _ _ (both_of _ (all_scalars cs) s).0
-          (doubled_scalars cs (both_of _ (all_scalars cs) s).1)
+      | true ↦ doubled_scalars cs (and_parts _ (all_scalars cs) s).1
+      | false ↦ and_from _ _ (and_parts _ (all_scalars cs) s).0
+          (doubled_scalars cs (and_parts _ (all_scalars cs) s).1)
     ]
 
 pub doubled_utf8 : (bytes : List ℕ) → IsUtf8 bytes → IsUtf8 (doubled bytes)

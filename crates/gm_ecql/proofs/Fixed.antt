@@ -7,13 +7,12 @@ use Rattle.std.specs.List.{list_all}
 use Rattle.std.specs.Char.{is_ascii_digit}
 use Rattle.std.specs.Fmt.{signed_decimal, decimal}
 use Rattle.std.specs.Str.Parse.{starts_with_minus, without_leading_sign, without_leading_plus}
-use Rattle.std.proofs.lemmas.Bool.{le-leb}
+use Rattle.std.proofs.lemmas.Bool.{le-leb, and_parts}
 use Rattle.std.proofs.lemmas.Bool.Decides.{nat_tests}
 use Rattle.std.proofs.lemmas.Fmt.{digits_decimal, decimal_nonempty, length-decimal-le_wide}
 use Rattle.std.proofs.lemmas.List.Folds.{list_all-append}
 use mir.Syntax.{w32}
 use mir.Val.{SFits}
-use Rattle.gm_base.proofs.Booleans.{both_of}
 use Rattle.gm_base.proofs.Numbers.{no_plus}
 use Rattle.gm_feature.specs.Value.{is_below}
 use Rattle.gm_geom.specs.Number.{number_of, if_number, fixed_of, fixed_text, fraction_text}
@@ -35,7 +34,7 @@ digit_no_dash b e = grind (arith, nat_tests)
 no_dashes : (ds : List ℕ) → list_all is_ascii_digit ds ≡ true → list_all is_no_dash ds ≡ true
 no_dashes [] e = refl
 no_dashes (d ∷ ds) e =
-    let p = both_of (is_ascii_digit d) (list_all is_ascii_digit ds) e in
+    let p = and_parts (is_ascii_digit d) (list_all is_ascii_digit ds) e in
     ap (λ x. x && list_all is_no_dash ds) (digit_no_dash d p.0) ∙ no_dashes ds p.1
 
 no_dashes_more : (ds rest : List ℕ) → list_all is_ascii_digit ds ≡ true
@@ -48,7 +47,7 @@ digits_signed : (ds rest : List ℕ) → list_all is_ascii_digit ds ≡ true →
     → list_all is_no_dash rest ≡ true → IsSigned (ds ++ rest)
 digits_signed [] rest e some f = absurd (omega (arith, some))
 digits_signed (d ∷ ds) rest e some f =
-    let p = both_of (is_ascii_digit d) (list_all is_ascii_digit ds) e in
+    let p = and_parts (is_ascii_digit d) (list_all is_ascii_digit ds) e in
     (digit_starts d p.0, no_dashes_more ds rest p.1 f)
 
 place_no_dash : (m : ℕ) → is_no_dash (48 + m) ≡ true
@@ -149,7 +148,7 @@ no_minus d e = grind (arith, nat_tests)
 unsigned : (ds : List ℕ) → list_all is_ascii_digit ds ≡ true → without_leading_sign ds ≡ ds
 unsigned [] e = refl
 unsigned (d ∷ ds) e =
-    let p = both_of (is_ascii_digit d) (list_all is_ascii_digit ds) e in
+    let p = and_parts (is_ascii_digit d) (list_all is_ascii_digit ds) e in
     ap (λ x. cond x ds (without_leading_plus (d ∷ ds))) (no_minus d p.0)
     ∙ ap (λ x. drop (cond x 1 0) (d ∷ ds)) (no_plus d p.0)
 

@@ -3,7 +3,7 @@ use Rattle.std.proofs.Common.{◌≡◌, ℕ, Bool, true, false, ◌==◌, cond,
 use Rattle.std.proofs.Common.{Some, None, refl, sym, ap, ◌∙◌, subst, eqb-true}
 use Rattle.std.specs.Prelude.{ℤ}
 use Rattle.std.specs.List.{list_all}
-use Rattle.gm_base.proofs.Booleans.{both_of}
+use Rattle.std.proofs.lemmas.Bool.{and_parts}
 use Rattle.gm_calendar.specs.Spelling.{instant_of, is_instant_byte}
 use Rattle.gm_ecql.specs.Token.{undoubled, undoubled_from}
 
@@ -15,11 +15,11 @@ quote_is_none b e h = absurd (other (subst (λ z. is_instant_byte z ≡ true) (e
 
 whole_same : (t : List ℕ) → list_all is_instant_byte t ≡ true → undoubled_from false t ≡ t
 whole_same [] a = refl
-whole_same (b ∷ t) a = by_quote (b == 39) refl (whole_same t (both_of (is_instant_byte b) _ a).1)
+whole_same (b ∷ t) a = by_quote (b == 39) refl (whole_same t (and_parts (is_instant_byte b) _ a).1)
   where
     by_quote : (x : Bool) → (b == 39) ≡ x → undoubled_from false t ≡ t
         → cond x (39 ∷ undoubled_from true t) (b ∷ undoubled_from false t) ≡ b ∷ t
-    by_quote true e i = quote_is_none b e (both_of (is_instant_byte b) _ a).0
+    by_quote true e i = quote_is_none b e (and_parts (is_instant_byte b) _ a).0
     by_quote false e i = ap (λ z. b ∷ z) i
 
 undone_same : (t : List ℕ) → list_all is_instant_byte (undoubled_from false t) ≡ true
@@ -34,10 +34,10 @@ undone_same (b ∷ t) a = by_quote (b == 39) a (undone_same t)
         → cond x (39 ∷ undoubled_from true t) (b ∷ undoubled_from false t) ≡ b ∷ t
     by_quote true g i =
         quote_is_none 39 refl
-        (both_of (is_instant_byte 39) (list_all is_instant_byte (undoubled_from true t)) g).0
+        (and_parts (is_instant_byte 39) (list_all is_instant_byte (undoubled_from true t)) g).0
     by_quote false g i =
         ap (λ z. b ∷ z)
-        (i (both_of (is_instant_byte b) (list_all is_instant_byte (undoubled_from false t)) g).1)
+        (i (and_parts (is_instant_byte b) (list_all is_instant_byte (undoubled_from false t)) g).1)
 
 pub instant_same : ((text : List ℕ) (at : ℤ) → instant_of text ≡ Some at
     → list_all is_instant_byte text ≡ true) → (t : List ℕ) → instant_of t ≡ instant_of (undoubled t)

@@ -7,7 +7,7 @@ use Rattle.std.specs.List.{list_all, prefix_len}
 use Rattle.std.specs.Char.{is_ascii_digit}
 use Rattle.std.specs.Str.Parse.{without_leading_sign, without_leading_plus, starts_with_minus}
 use Rattle.std.proofs.lemmas.Bool.Decides.{nat_tests}
-use Rattle.gm_base.proofs.Booleans.{both_of}
+use Rattle.std.proofs.lemmas.Bool.{and_parts}
 use Rattle.gm_geom.specs.Number.{number_of, digits_at, behind_digits, fraction_at, behind_fraction}
 use Rattle.gm_geom.specs.Number.{is_exponent, marked_exponent, exponent_of, unsigned_number}
 use Rattle.gm_ecql.specs.Token.{Stops, is_sign, is_number_tail}
@@ -93,7 +93,7 @@ free_sign (b ∷ bs) some j = (also (is_number_tail b) (is_sign b) j.0, j.1)
 all_digits : (bytes : List ℕ) → list_all is_ascii_digit bytes ≡ true → Joins false bytes
 all_digits [] all = refl
 all_digits (b ∷ bs) all =
-    let each = both_of (is_ascii_digit b) (list_all is_ascii_digit bs) all in (
+    let each = and_parts (is_ascii_digit b) (list_all is_ascii_digit bs) all in (
       digit_goes_on false b each.0,
       subst (λ t. Joins t bs) (sym (digit_no_e b each.0)) (all_digits bs each.1),
     )
@@ -129,10 +129,10 @@ marked_joins : (bytes : List ℕ) → IsSome (marked_exponent bytes) → Joins t
 marked_joins bytes h =
     let d = without_leading_sign bytes in
     let is = (some_then (is_exponent d) _ h).0 in
-    let each = both_of (nat_le 1 (length d) && nat_le (length d) 3)
+    let each = and_parts (nat_le 1 (length d) && nat_le (length d) 3)
     (list_all is_ascii_digit d) is in
     unsigned_joins bytes
-    (at_least (length d) (both_of (nat_le 1 (length d)) (nat_le (length d) 3) each.0).0)
+    (at_least (length d) (and_parts (nat_le 1 (length d)) (nat_le (length d) 3) each.0).0)
     (all_digits d each.1)
 
 exponent_joins : (bytes : List ℕ) → IsSome (exponent_of bytes) → Joins false bytes

@@ -11,7 +11,7 @@ use Rattle.std.proofs.lemmas.List.Folds.{list_all-append}
 use Rattle.std.proofs.lemmas.Bool.Decides.{nat_tests}
 use mir.Syntax.{w32}
 use mir.Val.{SFits}
-use Rattle.gm_base.proofs.Booleans.{both_of}
+use Rattle.std.proofs.lemmas.Bool.{and_parts}
 use Rattle.gm_geom.specs.declared.point.Point.{Point}
 use Rattle.gm_geom.specs.declared.geometry.Geometry.{Geometry}
 use Rattle.gm_geom.specs.declared.geometry.Geometry.TheVariants as geo
@@ -369,7 +369,7 @@ module _ (numbers : (z : ℤ) → SFits w32 z → Printed (fixed_text z) (a_numb
 
   pub point_fits : (p : Point) → is_in_world p ≡ true → FitsPoint p
   point_fits p e =
-      let each = both_of (is_within 1800000000 p.x) (is_within 900000000 p.y) e in
+      let each = and_parts (is_within 1800000000 p.x) (is_within 900000000 p.y) e in
       record {
         x = within_fits 1800000000 p.x (lit< tt) each.0;
         y = within_fits 900000000 p.y (lit< tt) each.1;
@@ -378,13 +378,13 @@ module _ (numbers : (z : ℤ) → SFits w32 z → Printed (fixed_text z) (a_numb
   line_fits : (points : List Point) → list_all is_in_world points ≡ true → Line points
   unfolding Line
   line_fits [] e = tt
-  line_fits (p ∷ ps) e = let each = both_of (is_in_world p) (list_all is_in_world ps) e in
+  line_fits (p ∷ ps) e = let each = and_parts (is_in_world p) (list_all is_in_world ps) e in
       (point_fits p each.0, line_fits ps each.1)
 
   split : (xs ys : List Point) → list_all is_in_world (xs ++ ys) ≡ true
       → (list_all is_in_world xs ≡ true) × (list_all is_in_world ys ≡ true)
   split xs ys e =
-      both_of (list_all is_in_world xs) (list_all is_in_world ys)
+      and_parts (list_all is_in_world xs) (list_all is_in_world ys)
       (sym (list_all-append is_in_world xs ys) ∙ e)
 
   lines_fit : (lines : List (List Point)) → list_all is_in_world (joined lines) ≡ true → Lines lines

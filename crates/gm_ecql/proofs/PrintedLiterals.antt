@@ -4,7 +4,7 @@ use Rattle.std.proofs.Common.{Some, option_map, refl, ◌∙◌, ap, arith}
 use Rattle.std.specs.List.{list_all}
 use Rattle.std.proofs.lemmas.Bool.Decides.{nat_tests}
 use Rattle.std.proofs.lemmas.Str.{IsUtf8-from_is_utf8}
-use Rattle.gm_base.proofs.Booleans.{both_of}
+use Rattle.std.proofs.lemmas.Bool.{and_parts}
 use Rattle.gm_calendar.specs.Instant.{IsInstant, is_instant}
 use Rattle.gm_calendar.specs.Spelling.{instant_text, instant_of, has_date_form, is_instant_byte}
 use Rattle.gm_feature.specs.Value.{is_below}
@@ -125,7 +125,7 @@ pub literals_mean : (k : Kind) (ls : List Literal) → list_all (is_literal_of k
     → literals_of (is_date k) (map written_of ls) ≡ Some ls
 literals_mean k [] h = refl
 literals_mean k (l ∷ ls) h =
-    let p = both_of (is_literal_of k l) (list_all (is_literal_of k) ls) h in
+    let p = and_parts (is_literal_of k l) (list_all (is_literal_of k) ls) h in
     ap (λ o. add_first o (literals_of (is_date k) (map written_of ls))) (literal_means k l p.0)
     ∙ ap (add_first (Some l)) (literals_mean k ls p.1)
 

@@ -5,11 +5,10 @@ use Rattle.std.proofs.Common.{cond, List, [], ◌∷◌, length, map, Some, None
 use Rattle.std.proofs.Common.{refl, sym, ◌∙◌, ap, subst, arith}
 use Rattle.std.specs.Prelude.{slice_get, nat_lt}
 use Rattle.std.specs.List.{list_all, list_any, prefix_len}
-use Rattle.std.proofs.lemmas.Bool.{lt-ltb, or_parts}
+use Rattle.std.proofs.lemmas.Bool.{lt-ltb, or_parts, and_parts}
 use Rattle.std.proofs.lemmas.Option.{slice_get-map, slice_get_within}
 use Rattle.std.proofs.lemmas.Str.{IsUtf8-from_ascii}
 use Rattle.gm_base.proofs.Options.{same_some}
-use Rattle.gm_base.proofs.Booleans.{both_of}
 use Rattle.gm_base.proofs.Options.{no_some}
 use Rattle.gm_base.proofs.Booleans.{false_of_not}
 use Rattle.gm_base.proofs.Numbers.{eq_true}
@@ -56,7 +55,7 @@ first_place (b ∷ bs) zero a apart is =
     (subst (λ (c : Attribute). same_text b.name c.name ≡ true) (same_some b a is)
     (same_self b.name))
 first_place (b ∷ bs) (suc place) a apart is =
-    let p = both_of (not (list_any (same_text b.name) (map (λ attribute. attribute.name) bs)))
+    let p = and_parts (not (list_any (same_text b.name) (map (λ attribute. attribute.name) bs)))
     (are_distinct (map (λ attribute. attribute.name) bs)) apart in
     ap (λ x. cond (not x) (1 + prefix_len (λ (c : Attribute). not (same_text c.name a.name)) bs) 0)
     (other_name b.name bs place a (false_of_not _ p.0) is)
@@ -80,9 +79,9 @@ attribute_passes : (attributes : List Attribute) (place : ℕ) (a : Attribute)
 attribute_passes [] place a all is = no_some a is
 attribute_passes (b ∷ bs) zero a all is =
     subst (λ (c : Attribute). is_attribute c ≡ true) (same_some b a is)
-    (both_of (is_attribute b) (list_all is_attribute bs) all).0
+    (and_parts (is_attribute b) (list_all is_attribute bs) all).0
 attribute_passes (b ∷ bs) (suc place) a all is =
-    attribute_passes bs place a (both_of (is_attribute b) (list_all is_attribute bs) all).1 is
+    attribute_passes bs place a (and_parts (is_attribute b) (list_all is_attribute bs) all).1 is
 
 -- there is such an attribute
 pub record Named (s : Specification) (place : ℕ) (k : Kind) : Type 0 where
@@ -101,7 +100,7 @@ named s place k t is =
     ∙ ap (option_map (λ (a : Attribute). a.name)) m.1) in
     let passes = attribute_passes s.attributes place a t.valid.attributes m.1 in
     let bytes = name_bytes a.name
-    (both_of (is_name a.name) _ (both_of (is_described a.name a.kind a.options) _ passes).0).0 in
+    (and_parts (is_name a.name) _ (and_parts (is_described a.name a.kind a.options) _ passes).0).0 in
     record {
       kind = is;
       printed = subst (λ n. Printed (name_text n) (a_name n)) (sym name)

@@ -6,7 +6,7 @@ use Rattle.std.specs.Prelude.{IsSome}
 use Rattle.std.specs.List.{list_all}
 use Rattle.std.specs.Char.{is_ascii_digit}
 use Rattle.std.proofs.lemmas.Bool.Decides.{nat_tests}
-use Rattle.gm_base.proofs.Booleans.{both_of}
+use Rattle.std.proofs.lemmas.Bool.{and_parts}
 use Rattle.gm_calendar.specs.Spelling.{has_date_form, is_instant_byte}
 use Rattle.gm_geom.specs.Number.{number_of}
 use Rattle.gm_ecql.specs.Token.{a_number, is_number_start, Starts, IsPiece}
@@ -32,10 +32,10 @@ dash_at : (bytes rest : List ℕ) (i k : ℕ) → list_all is_no_dash bytes ≡ 
     → slice_index (take k (bytes ++ rest)) i ≡ 45 → ⊥
 dash_at bytes rest i zero d e a l f h = absurd (omega arith)
 dash_at [] [] i (suc k) d e a l f h = absurd (omega (arith, l))
-dash_at [] (b ∷ bs) i (suc k) d e a l f h = end_no_instant b e (both_of (is_instant_byte b) _ a).0
-dash_at (b ∷ bs) rest zero (suc k) d e a l f h = dash_not b h (both_of (is_no_dash b) _ d).0
+dash_at [] (b ∷ bs) i (suc k) d e a l f h = end_no_instant b e (and_parts (is_instant_byte b) _ a).0
+dash_at (b ∷ bs) rest zero (suc k) d e a l f h = dash_not b h (and_parts (is_no_dash b) _ d).0
 dash_at (b ∷ bs) rest (suc i) (suc k) d e a l f h =
-    dash_at bs rest i k (both_of (is_no_dash b) _ d).1 e (both_of (is_instant_byte b) _ a).1
+    dash_at bs rest i k (and_parts (is_no_dash b) _ d).1 e (and_parts (is_instant_byte b) _ a).1
     (omega (arith, l)) (omega arith) h
 
 plain_no_date : (bytes rest : List ℕ) → list_all is_no_dash bytes ≡ true → Ends rest
@@ -47,10 +47,10 @@ plain_no_date bytes rest d e = by_form (has_date_form (take 10 (bytes ++ rest)))
     by_form true h =
         let s = take 10 (bytes ++ rest) in
         let shape = date_shape s h in
-        let marks = both_of
+        let marks = and_parts
         ((length s == 10) && ((slice_index s 4 == 45) && (slice_index s 7 == 45))) _ h in
-        let dashes = both_of (length s == 10) _ marks.0 in
-        let at_four = both_of (slice_index s 4 == 45) (slice_index s 7 == 45) dashes.1 in
+        let dashes = and_parts (length s == 10) _ marks.0 in
+        let at_four = and_parts (slice_index s 4 == 45) (slice_index s 7 == 45) dashes.1 in
         absurd (dash_at bytes rest 4 10 d e shape.all shape.len (omega arith)
         (eqb-true (slice_index s 4) 45 at_four.0))
 

@@ -8,7 +8,7 @@ use Rattle.std.specs.Str.{is_utf8}
 use Rattle.std.proofs.lemmas.Str.{IsUtf8-from_is_utf8}
 use mir.Syntax.{w32}
 use mir.Val.{SFits}
-use Rattle.gm_base.proofs.Booleans.{both_of}
+use Rattle.std.proofs.lemmas.Bool.{and_parts}
 use Rattle.gm_base.proofs.Options.{none_is}
 use Rattle.gm_calendar.specs.Instant.{is_instant}
 use Rattle.gm_calendar.specs.Spelling.{instant_text}
@@ -170,8 +170,8 @@ module _ (s : Specification) where
   unfolding judged
   ids_tested [] h = absurd (cc)
   ids_tested (t ∷ ts) h =
-      let p = both_of (is_utf8 t) (list_all is_utf8 ts)
-      (both_of (nat_le 1 (length (t ∷ ts))) (list_all is_utf8 (t ∷ ts)) h).1 in record {
+      let p = and_parts (is_utf8 t) (list_all is_utf8 ts)
+      (and_parts (nat_le 1 (length (t ∷ ts))) (list_all is_utf8 (t ∷ ts)) h).1 in record {
         trial = ids (t ∷ ts);
         lexed = λ b. piece_then b true (keyword_text keyword.In)
             (40 ∷ (commas quoted_text true (t ∷ ts) ++ codes ")")) (a_keyword keyword.In)
@@ -194,7 +194,7 @@ module _ (s : Specification) (below : Below) (typed : IsType s) where
   compare_tested a o l h =
       let k = found (may_compare o l) (kind_at s a) h in
       let n = names.named s a k.0 typed k.1 in
-      let is = (both_of (is_op_of k.0 o) (is_literal_of k.0 l) k.2).1 in
+      let is = (and_parts (is_op_of k.0 o) (is_literal_of k.0 l) k.2).1 in
       let text = literal_text l in
       let token = literal_token (written_of l) in record {
         trial = named (name_at s a) (compared o (written_of l));
@@ -217,8 +217,8 @@ module _ (s : Specification) (below : Below) (typed : IsType s) where
   between_tested a low high h =
       let k = found (may_lie_between low high) (kind_at s a) h in
       let n = names.named s a k.0 typed k.1 in
-      let are = both_of (is_literal_of k.0 low) (is_literal_of k.0 high)
-      (both_of (is_ordered k.0) (is_literal_of k.0 low && is_literal_of k.0 high) k.2).1 in
+      let are = and_parts (is_literal_of k.0 low) (is_literal_of k.0 high)
+      (and_parts (is_ordered k.0) (is_literal_of k.0 low && is_literal_of k.0 high) k.2).1 in
       let first = literal_token (written_of low) in
       let last = literal_token (written_of high) in
       let rest : Lexed true (keyword_text keyword.And ++ (32 ∷ literal_text high))
@@ -247,7 +247,7 @@ module _ (s : Specification) (below : Below) (typed : IsType s) where
   pub like_tested : (a : ℕ) (pattern : List ℕ) → Suits s (tree.like a pattern)
       → Tested s (tree.like a pattern)
   like_tested a pattern h =
-      let p = both_of (is_utf8 pattern) _ h in
+      let p = and_parts (is_utf8 pattern) _ h in
       let k = found _ (kind_at s a) p.1 in
       let n = names.named s a k.0 typed k.1 in record {
         trial = named (name_at s a) (like false pattern);
@@ -263,11 +263,11 @@ module _ (s : Specification) (below : Below) (typed : IsType s) where
       → Tested s (tree.one_of a ls)
   one_of_tested a [] h = absurd (cc)
   one_of_tested a (l ∷ ls) h =
-      let p = both_of (nat_le 1 (length (l ∷ ls))) _ h in
+      let p = and_parts (nat_le 1 (length (l ∷ ls))) _ h in
       let k = found (may_be_one_of (l ∷ ls)) (kind_at s a) p.1 in
       let n = names.named s a k.0 typed k.1 in
       let token : Literal → Seen = λ m. literal_token (written_of m) in
-      let are = both_of (is_literal_of k.0 l) (list_all (is_literal_of k.0) ls) k.2 in
+      let are = and_parts (is_literal_of k.0 l) (list_all (is_literal_of k.0) ls) k.2 in
       let each : (m : Literal) → is_literal_of k.0 m ≡ true
       → Printed (literal_text m) (literal_token (written_of m)) =
       literal_printed below.instants k.0 in
@@ -342,11 +342,11 @@ module _ (s : Specification) (below : Below) (typed : IsType s) where
 
   pub bbox_tested : (a : ℕ) (x : Box2) → Suits s (tree.bbox a x) → Tested s (tree.bbox a x)
   bbox_tested a x h =
-      let p = both_of (is_box x) _ h in
+      let p = and_parts (is_box x) _ h in
       let k = found _ (kind_at s a) p.1 in
       let n = names.named s a k.0 typed k.1 in
-      let are = both_of (is_in_world x.low) (is_in_world x.high)
-      (both_of (is_in_world x.low && is_in_world x.high)
+      let are = and_parts (is_in_world x.low) (is_in_world x.high)
+      (and_parts (is_in_world x.low && is_in_world x.high)
       (int_le x.low.x x.high.x && int_le x.low.y x.high.y) p.0).0 in
       let low = point_fits number x.low are.0 in
       let high = point_fits number x.high are.1 in
@@ -401,7 +401,7 @@ module _ (s : Specification) (below : Below) (typed : IsType s) where
       → Tested s (tree.intersects a g)
   unfolding relation_text
   intersects_tested a g h =
-      let p = both_of (is_kept g) _ h in
+      let p = and_parts (is_kept g) _ h in
       let k = found _ (kind_at s a) p.1 in
       let n = names.named s a k.0 typed k.1 in
       let e = none_is (fault_of g) p.0 in
@@ -416,7 +416,7 @@ module _ (s : Specification) (below : Below) (typed : IsType s) where
       → Tested s (tree.disjoint a g)
   unfolding relation_text
   disjoint_tested a g h =
-      let p = both_of (is_kept g) _ h in
+      let p = and_parts (is_kept g) _ h in
       let k = found _ (kind_at s a) p.1 in
       let n = names.named s a k.0 typed k.1 in
       let e = none_is (fault_of g) p.0 in
@@ -431,10 +431,10 @@ module _ (s : Specification) (below : Below) (typed : IsType s) where
       → Tested s (tree.within a g)
   unfolding relation_text
   within_tested a g h =
-      let p = both_of (has_area g && is_kept g) _ h in
+      let p = and_parts (has_area g && is_kept g) _ h in
       let k = found _ (kind_at s a) p.1 in
       let n = names.named s a k.0 typed k.1 in
-      let e = none_is (fault_of g) (both_of (has_area g) (is_kept g) p.0).1 in
+      let e = none_is (fault_of g) (and_parts (has_area g) (is_kept g) p.0).1 in
       let x = prints number g e in record {
         trial = named (name_at s a) (related relation.Within (geometry_tokens g));
         lexed = related_lexed relation.Within a k.0 g n x;
@@ -445,8 +445,8 @@ module _ (s : Specification) (below : Below) (typed : IsType s) where
   pub during_tested : (a : ℕ) (low high : ℤ) → Suits s (tree.during a low high)
       → Tested s (tree.during a low high)
   during_tested a low high h =
-      let p = both_of (is_instant low && is_instant high) _ h in
-      let are = both_of (is_instant low) (is_instant high) p.0 in
+      let p = and_parts (is_instant low && is_instant high) _ h in
+      let are = and_parts (is_instant low) (is_instant high) p.0 in
       let k = found _ (kind_at s a) p.1 in
       let n = names.named s a k.0 typed k.1 in
       let slash = a_symbol symbol.Slash in
@@ -483,7 +483,7 @@ module _ (s : Specification) (below : Below) (typed : IsType s) where
   pub before_tested : (a : ℕ) (at : ℤ) → Suits s (tree.before a at) → Tested s (tree.before a at)
   unfolding timing_text
   before_tested a at h =
-      let p = both_of (is_instant at) _ h in
+      let p = and_parts (is_instant at) _ h in
       let k = found _ (kind_at s a) p.1 in
       let n = names.named s a k.0 typed k.1 in record {
         trial = named (name_at s a) (timed timing.Before at);
@@ -495,7 +495,7 @@ module _ (s : Specification) (below : Below) (typed : IsType s) where
   pub after_tested : (a : ℕ) (at : ℤ) → Suits s (tree.after a at) → Tested s (tree.after a at)
   unfolding timing_text
   after_tested a at h =
-      let p = both_of (is_instant at) _ h in
+      let p = and_parts (is_instant at) _ h in
       let k = found _ (kind_at s a) p.1 in
       let n = names.named s a k.0 typed k.1 in record {
         trial = named (name_at s a) (timed timing.After at);
@@ -507,7 +507,7 @@ module _ (s : Specification) (below : Below) (typed : IsType s) where
   pub tequals_tested : (a : ℕ) (at : ℤ) → Suits s (tree.tequals a at) → Tested s (tree.tequals a at)
   unfolding timing_text
   tequals_tested a at h =
-      let p = both_of (is_instant at) _ h in
+      let p = and_parts (is_instant at) _ h in
       let k = found _ (kind_at s a) p.1 in
       let n = names.named s a k.0 typed k.1 in record {
         trial = named (name_at s a) (timed timing.Tequals at);

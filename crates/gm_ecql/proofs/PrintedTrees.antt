@@ -2,7 +2,7 @@
 use Rattle.std.proofs.Common.{◌≡◌, ℕ, Bool, true, false, ◌&&◌, List, [], ◌∷◌, ◌++◌, length, codes}
 use Rattle.std.proofs.Common.{Some, option_map, refl, sym, ◌∙◌, ap, subst, append_assoc, append-nil}
 use Rattle.std.specs.Prelude.{nat_le}
-use Rattle.gm_base.proofs.Booleans.{both_of}
+use Rattle.std.proofs.lemmas.Bool.{and_parts}
 use Rattle.gm_filter.specs.Suitability.{Suits, suits, all_suit}
 use Rattle.gm_filter.specs.Tree.{Tree, Trees, include, exclude, negated, all, any, compare, between}
 use Rattle.gm_filter.specs.Tree.{like, one_of, is_null, ids, bbox, intersects, disjoint, within}
@@ -233,14 +233,14 @@ module _ (s : Specification) (below : Below) (typed : IsType s) where
     inside (negated t) h = not_inside s t (inside t h)
     inside (all no_trees) h = absurd (cc)
     inside (all (tree_and t ts)) h =
-        let p = both_of (nat_le 2 (length (t ∷ members_of ts))) (suits s t && all_suit s ts) h in
-        let q = both_of (suits s t) (all_suit s ts) p.1 in
+        let p = and_parts (nat_le 2 (length (t ∷ members_of ts))) (suits s t && all_suit s ts) h in
+        let q = and_parts (suits s t) (all_suit s ts) p.1 in
         bracketed s (all (tree_and t ts)) (listed s true (codes " AND ") (tree_and t ts)) refl
         (whole_and s t ts p.0 (inside t q.0) (ands ts q.1))
     inside (any no_trees) h = absurd (cc)
     inside (any (tree_and t ts)) h =
-        let p = both_of (nat_le 2 (length (t ∷ members_of ts))) (suits s t && all_suit s ts) h in
-        let q = both_of (suits s t) (all_suit s ts) p.1 in
+        let p = and_parts (nat_le 2 (length (t ∷ members_of ts))) (suits s t && all_suit s ts) h in
+        let q = and_parts (suits s t) (all_suit s ts) p.1 in
         bracketed s (any (tree_and t ts)) (listed s true (codes " OR ") (tree_and t ts)) refl
         (whole_or s t ts p.0 (inside t q.0) (ors ts q.1))
     inside (compare a op l) h =
@@ -265,24 +265,24 @@ module _ (s : Specification) (below : Below) (typed : IsType s) where
 
     ands : (ts : Trees) → all_suit s ts ≡ true → Ands s ts
     ands no_trees h = no_ands s
-    ands (tree_and t ts) h = let q = both_of (suits s t) (all_suit s ts) h in
+    ands (tree_and t ts) h = let q = and_parts (suits s t) (all_suit s ts) h in
         more_ands s t ts (inside t q.0) (ands ts q.1)
 
     ors : (ts : Trees) → all_suit s ts ≡ true → Ors s ts
     ors no_trees h = no_ors s
-    ors (tree_and t ts) h = let q = both_of (suits s t) (all_suit s ts) h in
+    ors (tree_and t ts) h = let q = and_parts (suits s t) (all_suit s ts) h in
         more_ors s t ts (inside t q.0) (ors ts q.1)
 
   whole : (t : Tree) → Suits s t → Whole s t (printed s t)
   whole (all no_trees) h = absurd (cc)
   whole (all (tree_and t ts)) h =
-      let p = both_of (nat_le 2 (length (t ∷ members_of ts))) (suits s t && all_suit s ts) h in
-      let q = both_of (suits s t) (all_suit s ts) p.1 in
+      let p = and_parts (nat_le 2 (length (t ∷ members_of ts))) (suits s t && all_suit s ts) h in
+      let q = and_parts (suits s t) (all_suit s ts) p.1 in
       whole_and s t ts p.0 (inside t q.0) (ands ts q.1)
   whole (any no_trees) h = absurd (cc)
   whole (any (tree_and t ts)) h =
-      let p = both_of (nat_le 2 (length (t ∷ members_of ts))) (suits s t && all_suit s ts) h in
-      let q = both_of (suits s t) (all_suit s ts) p.1 in
+      let p = and_parts (nat_le 2 (length (t ∷ members_of ts))) (suits s t && all_suit s ts) h in
+      let q = and_parts (suits s t) (all_suit s ts) p.1 in
       whole_or s t ts p.0 (inside t q.0) (ors ts q.1)
   whole include h = whole_one s include (inside include h)
   whole exclude h = whole_one s exclude (inside exclude h)

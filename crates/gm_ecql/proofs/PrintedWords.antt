@@ -4,7 +4,7 @@ use Rattle.std.proofs.Common.{refl, ◌∙◌, ap, arith, inl, inr}
 use Rattle.std.specs.Prelude.{IsUtf8}
 use Rattle.std.specs.List.{list_all}
 use Rattle.std.proofs.lemmas.Bool.Decides.{nat_tests}
-use Rattle.gm_base.proofs.Booleans.{both_of}
+use Rattle.std.proofs.lemmas.Bool.{and_parts}
 use Rattle.gm_types.specs.Words.{is_name, begins_name, continues_name}
 use Rattle.gm_ecql.specs.declared.keyword.Keyword.{Keyword}
 use Rattle.gm_ecql.specs.declared.keyword.Keyword.TheVariants as k
@@ -90,7 +90,7 @@ more_byte b e = grind (arith, nat_tests)
 more_bytes : (bs : List ℕ) → list_all continues_name bs ≡ true → list_all is_word_byte bs ≡ true
 more_bytes [] h = refl
 more_bytes (b ∷ bs) h =
-    let p = both_of (continues_name b) (list_all continues_name bs) h in
+    let p = and_parts (continues_name b) (list_all continues_name bs) h in
     ap (λ x. x && list_all is_word_byte bs) (more_byte b p.0) ∙ more_bytes bs p.1
 
 pub record NameBytes (name : List ℕ) : Type 0 where
@@ -101,8 +101,8 @@ pub name_bytes : (name : List ℕ) → is_name name ≡ true → NameBytes name
 unfolding is_name
 name_bytes [] h = absurd (cc)
 name_bytes (b ∷ bs) h =
-    let p = both_of (begins_name b) _ h in
-    let q = both_of _ (list_all continues_name bs) p.1 in
+    let p = and_parts (begins_name b) _ h in
+    let q = and_parts _ (list_all continues_name bs) p.1 in
     record {
       starts = p.0;
       all = ap (λ x. x && list_all is_word_byte bs) (start_byte b p.0) ∙ more_bytes bs q.1;
@@ -114,7 +114,7 @@ word_no_double b e = grind (arith, nat_tests)
 no_doubles : (bs : List ℕ) → list_all is_word_byte bs ≡ true → list_all is_no_double bs ≡ true
 no_doubles [] h = refl
 no_doubles (b ∷ bs) h =
-    let p = both_of (is_word_byte b) (list_all is_word_byte bs) h in
+    let p = and_parts (is_word_byte b) (list_all is_word_byte bs) h in
     ap (λ x. x && list_all is_no_double bs) (word_no_double b p.0) ∙ no_doubles bs p.1
 
 some_bytes : (name : List ℕ) → Starts is_word_start name → 0 < length name

@@ -3,7 +3,7 @@ use Rattle.std.proofs.Common.{◌≡◌, ℕ, suc, ◌+◌, Bool, true, false, c
 use Rattle.std.proofs.Common.{◌∷◌, ◌++◌, length, take, drop, refl, ap, ◌∙◌, subst, arith}
 use Rattle.std.specs.List.{list_all, prefix_len}
 use Rattle.gm_base.proofs.Lists.{take_front, drop_front}
-use Rattle.gm_base.proofs.Booleans.{both_of}
+use Rattle.std.proofs.lemmas.Bool.{and_parts}
 use Rattle.gm_ecql.specs.Token.{Stops}
 
 pub run : (test : ℕ → Bool) (bs rest : List ℕ) → list_all test bs ≡ true → Stops test rest
@@ -12,7 +12,7 @@ run test [] [] all stops = refl
 run test [] (b ∷ rest) all stops = ap (λ t. cond t (1 + prefix_len test rest) 0) stops
 run test (b ∷ bs) rest all stops =
     let each : (test b ≡ true) × (list_all test bs ≡ true) =
-    both_of (test b) (list_all test bs) all in
+    and_parts (test b) (list_all test bs) all in
     ap (λ t. cond t (1 + prefix_len test (bs ++ rest)) 0) each.0
     ∙ ap (λ n. 1 + n) (run test bs rest each.1 stops) ∙ omega arith
 

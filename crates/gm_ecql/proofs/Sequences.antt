@@ -3,7 +3,8 @@ use Rattle.std.proofs.Common.{◌≡◌, ℕ, Bool, true, false, ◌&&◌, List,
 use Rattle.std.proofs.Common.{refl, sym, ◌∙◌, ap, subst, arith, append_assoc, append-nil, codes}
 use Rattle.std.specs.List.{list_all}
 use Rattle.std.proofs.lemmas.Bool.Decides.{nat_tests}
-use Rattle.gm_base.proofs.Booleans.{both_of, and_false}
+use Rattle.std.proofs.lemmas.Bool.{and_parts}
+use Rattle.gm_base.proofs.Booleans.{and_false}
 use Rattle.gm_ecql.specs.declared.token.Symbol.{Symbol}
 use Rattle.gm_ecql.specs.declared.token.Symbol.TheVariants as symbol
 use Rattle.gm_ecql.specs.Grammar.{by_commas, comma, opening, closing}
@@ -226,5 +227,5 @@ module _ {A : Type 0} (item : A → List ℕ) (token : A → Seen) where
       → (xs : List A) → list_all test xs ≡ true → AllPrinted xs
   unfolding AllPrinted
   all_printed test each [] e = tt
-  all_printed test each (x ∷ xs) e = let p = both_of (test x) (list_all test xs) e in
+  all_printed test each (x ∷ xs) e = let p = and_parts (test x) (list_all test xs) e in
       (each x p.0, all_printed test each xs p.1)

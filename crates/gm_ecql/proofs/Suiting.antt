@@ -5,10 +5,9 @@ use Rattle.std.proofs.Common.{subst, arith}
 use Rattle.std.specs.Prelude.{nat_le}
 use Rattle.std.specs.List.{list_all}
 use Rattle.std.specs.Str.{is_utf8}
-use Rattle.std.proofs.lemmas.Bool.{le-leb}
+use Rattle.std.proofs.lemmas.Bool.{le-leb, and_parts}
 use Rattle.std.proofs.lemmas.List.Folds.{list_all-append}
 use Rattle.gm_base.proofs.Options.{same_some}
-use Rattle.gm_base.proofs.Booleans.{both_of}
 use Rattle.gm_base.proofs.Options.{no_some}
 use Rattle.gm_types.specs.Specification.{Specification, place_of_name, kind_at}
 use Rattle.gm_filter.specs.Suitability.{Suits, suits, all_suit}
@@ -42,14 +41,14 @@ are_utf8 ts = list_all has_utf8 ts
 
 pub joined_utf8 : (xs ys : List Seen) → are_utf8 (xs ++ ys) ≡ true
     → (are_utf8 xs ≡ true) × (are_utf8 ys ≡ true)
-joined_utf8 xs ys h = both_of (are_utf8 xs) (are_utf8 ys) (sym (list_all-append has_utf8 xs ys) ∙ h)
+joined_utf8 xs ys h = and_parts (are_utf8 xs) (are_utf8 ys) (sym (list_all-append has_utf8 xs ys) ∙ h)
 
 texts_utf8 : (texts : List (List ℕ)) → are_utf8 (by_commas a_text texts) ≡ true
     → list_all is_utf8 texts ≡ true
 texts_utf8 [] h = refl
 texts_utf8 (t ∷ []) h = h
 texts_utf8 (t ∷ u ∷ us) h =
-    let p = both_of (is_utf8 t) (are_utf8 (by_commas a_text (u ∷ us))) h in
+    let p = and_parts (is_utf8 t) (are_utf8 (by_commas a_text (u ∷ us))) h in
     ap (λ x. x && list_all is_utf8 (u ∷ us)) p.0 ∙ texts_utf8 (u ∷ us) p.1
 
 -- a name beside no later one

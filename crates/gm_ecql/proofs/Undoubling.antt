@@ -6,7 +6,8 @@ use Rattle.std.specs.Prelude.{⊤}
 use Rattle.std.specs.Str.{all_scalars}
 use Rattle.std.proofs.lemmas.Str.{inside_one, length-encode, len_utf8_bounds, encodes-chars}
 use Rattle.std.proofs.lemmas.Str.{encode_ascii}
-use Rattle.gm_base.proofs.Booleans.{both_of, not_both, both_from}
+use Rattle.std.proofs.lemmas.Bool.{and_parts, and_from}
+use Rattle.gm_base.proofs.Booleans.{not_both}
 use Rattle.gm_ecql.specs.Token.{doubled, undoubled, undoubled_from}
 use Rattle.gm_ecql.proofs.Sound.{undoubled_doubled}
 
@@ -96,14 +97,14 @@ undoubled_scalars : (cs : List ℕ) (behind : Bool) → all_scalars cs ≡ true
     → all_scalars (undoubled_from behind cs) ≡ true
 undoubled_scalars [] behind s = refl
 undoubled_scalars (c ∷ cs) behind s =
-    let later = (both_of _ (all_scalars cs) s).1 in
+    let later = (and_parts _ (all_scalars cs) s).1 in
     elim (c == 39) as
     (λ x. all_scalars
     (cond x (cond behind (undoubled_from false cs) (39 ∷ undoubled_from true cs))
     (c ∷ undoubled_from false cs)) ≡ true) [
       | true ↦ scalars_at_quote cs behind (undoubled_scalars cs false later)
           (undoubled_scalars cs true later)
-      | false ↦ both_from _ _ (both_of _ (all_scalars cs) s).0 (undoubled_scalars cs false later)
+      | false ↦ and_from _ _ (and_parts _ (all_scalars cs) s).0 (undoubled_scalars cs false later)
     ]
 
 pub undoubled_utf8 : (bytes : List ℕ) → IsUtf8 bytes → IsUtf8 (undoubled bytes)

@@ -5,7 +5,7 @@ use Rattle.std.specs.Prelude.{IsUtf8, slice_index}
 use Rattle.std.specs.List.{list_all}
 use Rattle.std.proofs.lemmas.Bool.Decides.{nat_tests}
 use Rattle.std.proofs.lemmas.Str.{IsUtf8-append, IsUtf8-from_ascii, IsUtf8-nil}
-use Rattle.gm_base.proofs.Booleans.{both_of}
+use Rattle.std.proofs.lemmas.Bool.{and_parts}
 use Rattle.gm_calendar.specs.Spelling.{is_instant_byte}
 use Rattle.gm_ecql.specs.declared.token.Symbol.{Symbol}
 use Rattle.gm_ecql.specs.declared.token.Symbol.TheVariants as symbol
@@ -17,9 +17,9 @@ use Rattle.gm_ecql.proofs.Numbers.{number_joins, joined_ascii}
 all_ascii : (test : ℕ → Bool) → ((b : ℕ) → test b ≡ true → b < 128) → (bs : List ℕ)
     → list_all test bs ≡ true → (i : ℕ) → slice_index bs i < 128
 all_ascii test below [] all i = omega arith
-all_ascii test below (b ∷ bs) all zero = below b (both_of (test b) (list_all test bs) all).0
+all_ascii test below (b ∷ bs) all zero = below b (and_parts (test b) (list_all test bs) all).0
 all_ascii test below (b ∷ bs) all (suc i) =
-    all_ascii test below bs (both_of (test b) (list_all test bs) all).1 i
+    all_ascii test below bs (and_parts (test b) (list_all test bs) all).1 i
 
 blank_ascii : (b : ℕ) → is_blank b ≡ true → b < 128
 blank_ascii b e = grind (arith, nat_tests)

@@ -8,7 +8,8 @@ use Rattle.std.specs.Cmp.Lexicographic.{nat_list_cmp_total}
 use Rattle.std.specs.FinMap as features
 use Rattle.std.specs.FinMap.{get-insert, get-remove, len-insert, len-entries, same_map}
 use Rattle.std.specs.FinMap.{nat_cmp-IsAntisymmetric, slice_cmp-IsAntisymmetric}
-use Rattle.gm_base.proofs.Booleans.{both_of, false_of_not}
+use Rattle.std.proofs.lemmas.Bool.{and_parts}
+use Rattle.gm_base.proofs.Booleans.{false_of_not}
 use Rattle.gm_table.specs.Batch.{has_key, are_distinct}
 use Rattle.gm_table.specs.Sorted.{RowMap, at_key}
 use Rattle.gm_types.specs.Specification.{Specification}
@@ -61,7 +62,7 @@ len-with : (m : RowMap) (keys : List (List ℕ)) (bytes : List ℕ) → are_dist
     → features.len (with_keys m keys bytes) ≡ features.len m + length keys
 len-with m [] bytes once new = let is : features.len m ≡ features.len m + 0 = omega arith in is
 len-with m (k ∷ keys) bytes once new =
-    let parts = both_of _ _ once in
+    let parts = and_parts _ _ once in
     let more : features.len (features.insert m k bytes) ≡ features.len m + 1 =
     len-insert nat_list_cmp_total m k bytes
     ∙ ap (λ (o : Option (List ℕ)). cond (is_some o) (features.len m) (features.len m + 1))

@@ -4,7 +4,8 @@ use Rattle.std.proofs.Common.{◌⊎◌, inl, inr, ⊎_elim, List, [], ◌∷◌
 use Rattle.std.proofs.Common.{length, Option, Some, None, refl, sym, ap, subst, ◌∙◌, arith}
 use Rattle.std.specs.Option.{ForSome}
 use Rattle.std.specs.List.{cons_option}
-use Rattle.gm_base.proofs.Booleans.{false_of_never, both_of, both_from, false_of_not}
+use Rattle.std.proofs.lemmas.Bool.{and_parts, and_from}
+use Rattle.gm_base.proofs.Booleans.{false_of_never, false_of_not}
 use Rattle.gm_table.specs.declared.row.Row.{Row}
 use Rattle.gm_table.specs.Batch.{has_key, are_distinct}
 use Rattle.gm_table.specs.Row.{key_of as key_of_row}
@@ -30,8 +31,8 @@ pub distinct_append : (xs ys : List (List ℕ)) → are_distinct xs ≡ true →
     → ((k : List ℕ) → In k xs → has_key k ys ≡ false) → are_distinct (xs ++ ys) ≡ true
 distinct_append [] ys one other apart = other
 distinct_append (x ∷ xs) ys one other apart =
-    let parts = both_of _ _ one in
-    both_from (not (has_key x (xs ++ ys))) (are_distinct (xs ++ ys))
+    let parts = and_parts _ _ one in
+    and_from (not (has_key x (xs ++ ys))) (are_distinct (xs ++ ys))
     (ap not (false_of_never (has_key x (xs ++ ys)) (λ has. ⊎_elim
     (λ here. true≢false (sym (has_in x xs here) ∙ false_of_not _ parts.0))
     (λ there. true≢false (sym (has_in x ys there) ∙ apart x (inl refl)))
@@ -53,10 +54,10 @@ pub distinct_filter : (p : List ℕ → Bool) (xs : List (List ℕ)) → are_dis
     → are_distinct (filter p xs) ≡ true
 distinct_filter p [] one = refl
 distinct_filter p (x ∷ xs) one =
-    let parts = both_of _ _ one in
+    let parts = and_parts _ _ one in
     let rest = distinct_filter p xs parts.1 in
     elim (p x) as (λ t. are_distinct (cond t (x ∷ filter p xs) (filter p xs)) ≡ true) [
-      | true ↦ both_from (not (has_key x (filter p xs))) (are_distinct (filter p xs))
+      | true ↦ and_from (not (has_key x (filter p xs))) (are_distinct (filter p xs))
           (ap not (false_of_never (has_key x (filter p xs))
           (λ has. true≢false
           (sym (has_in x xs (in_filter p xs x (in_keys x (filter p xs) has)).1)
@@ -144,7 +145,7 @@ kept_once f test (k ∷ kinds) apart once =
     ≡ true) [
       | true ↦ elim (f k) as (λ o. f k ≡ o → are_distinct (cons_option o others) ≡ true) [
         | None ↦ λ _. rest
-        | Some key ↦ λ is. both_from (not (has_key key others)) (are_distinct others)
+        | Some key ↦ λ is. and_from (not (has_key key others)) (are_distinct others)
             (ap not (false_of_never (has_key key others) (λ has.
             let at = kept_out f test kinds key (in_keys key others has) in
             once.0 (subst (λ j. In j kinds) (apart at.0 k key at.2 is) at.3)))) rest

@@ -4,7 +4,8 @@ use Rattle.std.proofs.Common.{◌||◌, ◌⊎◌, inl, inr, ⊎_elim, List, [],
 use Rattle.std.proofs.Common.{length, Option, Some, None, refl, sym, ap, subst, ◌∙◌, arith}
 use Rattle.std.specs.Prelude.{All, slice_get, if◌then◌else◌}
 use Rattle.std.specs.List.{flat_map}
-use Rattle.gm_base.proofs.Booleans.{false_of_never, both_of, false_of_not}
+use Rattle.std.proofs.lemmas.Bool.{and_parts}
+use Rattle.gm_base.proofs.Booleans.{false_of_never, false_of_not}
 use Rattle.gm_base.proofs.Options.{same_some}
 use Rattle.gm_table.specs.declared.row.Row.{Row}
 use Rattle.gm_table.specs.Batch.{has_key, are_distinct, put_at, applied_at}
@@ -136,7 +137,7 @@ apart_later e es d once member same =
     true≢false (sym
     (has_in e.old.id (owners_of es)
     (subst (λ i. In i (owners_of es)) (sym same) (id_in es d member)))
-    ∙ false_of_not _ (both_of _ _ once).0)
+    ∙ false_of_not _ (and_parts _ _ once).0)
 
 same_exchange : (es : List Exchange) (d e : Exchange) → are_distinct (owners_of es) ≡ true → In d es
     → In e es → d.old.id ≡ e.old.id → d ≡ e
@@ -147,7 +148,7 @@ same_exchange (x ∷ es) d e once (inl a) (inr b) same =
 same_exchange (x ∷ es) d e once (inr a) (inl b) same =
     absurd (apart_later x es d once a (ap (λ (y : Exchange). y.old.id) (sym b) ∙ sym same))
 same_exchange (x ∷ es) d e once (inr a) (inr b) same =
-    same_exchange es d e (both_of _ _ once).1 a b same
+    same_exchange es d e (and_parts _ _ once).1 a b same
 
 -- a key of the first is none of the later ones
 none_later : Keys
@@ -172,7 +173,7 @@ removes_distinct keys t (e ∷ es) typed are once =
     (distinct_filter (λ q. not (has_key q (keys_at t e.new))) (keys_of t e.old)
     (some_keys_distinct keys t (Some e.old) typed
     (λ f same. subst (Fits t) (same_some e.old f same) is.old)))
-    (removes_distinct keys t es typed later (both_of _ _ once).1)
+    (removes_distinct keys t es typed later (and_parts _ _ once).1)
     (λ k member. none_later keys t e es (λ d. removes_of t (Some d.old) d.new) k typed once
     (owned_removed t e k is member)
     (λ d among. owned_removed t d k (later d among)))
@@ -186,7 +187,7 @@ puts_distinct keys t (e ∷ es) typed are once =
     let later : (d : Exchange) → In d es → IsExchange t d = λ d member. are d (inr member) in
     distinct_append (keys_at t e.new) (new_keys t es)
     (some_keys_distinct keys t e.new typed (λ f same. (is.new f same).fits))
-    (puts_distinct keys t es typed later (both_of _ _ once).1)
+    (puts_distinct keys t es typed later (and_parts _ _ once).1)
     (λ k member. none_later keys t e es (λ d. keys_at t d.new) k typed once
     (owned_put t e k is member)
     (λ d among. owned_put t d k (later d among)))
@@ -284,7 +285,7 @@ next_of s n t e es state typed are once = record {
   state = keeps_state s n t e.old.id e.new state typed (are e (inl refl)).new;
   typed = ap (λ x. slice_get x n) (same_types n e.old.id e.new s) ∙ typed;
   are = λ d member. exchange_later s n t e d (apart_later e es d once member) (are d (inr member));
-  once = (both_of _ _ once).1;
+  once = (and_parts _ _ once).1;
 }
 
 keeps_all : (n : ℕ) (t : Specification) (es : List Exchange) (s : State) → IsState s

@@ -8,7 +8,7 @@ use Rattle.std.specs.FinMap as features
 use Rattle.std.specs.FinMap.{find, get-entries, get-from_entries, entries_sorted}
 use Rattle.gm_base.proofs.Options.{same_some}
 use Rattle.gm_base.proofs.Lists.{within_list}
-use Rattle.gm_base.proofs.Booleans.{both_of}
+use Rattle.std.proofs.lemmas.Bool.{and_parts}
 use Rattle.gm_table.specs.Sorted.{RowMap, at_key}
 use Rattle.gm_types.specs.declared.index.IndexKind.{IndexKind}
 use Rattle.gm_types.specs.declared.index.IndexKind.TheVariants.{Id, Z2, Z3, Xz2, Xz3, Attr}
@@ -56,7 +56,7 @@ among_all t Xz2 has = inr (inr (inr (inl refl)))
 among_all t Xz3 has = inr (inr (inr (inr (inl refl))))
 among_all t (Attr n) has =
     let within = within_list t.attributes n
-    (λ none. true≢false (sym (both_of _ _ has).0 ∙ ap is_indexed_one none)) in
+    (λ none. true≢false (sym (and_parts _ _ has).0 ∙ ap is_indexed_one none)) in
     let same : 0 + n ≡ n = omega arith in
     inr (inr (inr (inr
     (inr (subst (λ (k : ℕ). In (Attr k) (attribute_indexes 0 (length t.attributes))) same

@@ -7,9 +7,8 @@ use Rattle.std.specs.Int.{w32, w64}
 use Rattle.std.specs.Int.RustNames.{FitsSigned}
 use Rattle.std.specs.List.{list_all}
 use Rattle.std.specs.Str.{is_utf8}
-use Rattle.std.proofs.lemmas.Bool.{leb-true}
+use Rattle.std.proofs.lemmas.Bool.{leb-true, and_parts}
 use Rattle.std.proofs.lemmas.Grind.{common_steps}
-use Rattle.gm_base.proofs.Booleans.{both_of}
 use Rattle.gm_calendar.specs.Instant.{is_instant}
 use Rattle.gm_types.specs.declared.kind.Kind.{Kind}
 use Rattle.gm_types.specs.declared.kind.Kind.TheVariants as kind
@@ -68,10 +67,10 @@ instant_again at rest is = rw (signed_again w64 wide64 at rest (instant_fits at 
 
 short_text : (text : List ℕ) → has_text_form text ≡ true → length text < 2 ^ 32
 short_text text form =
-    let parts = both_of (nat_le 1 (length text) && nat_le (length text) 1048576)
+    let parts = and_parts (nat_le 1 (length text) && nat_le (length text) 1048576)
     (list_all is_no_zero text) form in
     let few : length text ≤ 1048576 =
-    leb-true _ _ (both_of (nat_le 1 (length text)) (nat_le (length text) 1048576) parts.0).1 in
+    leb-true _ _ (and_parts (nat_le 1 (length text)) (nat_le (length text) 1048576) parts.0).1 in
     omega arith
 
 text_takes : (bytes : List ℕ) (x : List ℕ × List ℕ) → IsBytes bytes → text_from bytes ≡ Some x
@@ -91,7 +90,7 @@ unfolding text_from
 text_again text rest is =
     rw (
       string_again w32 wide32 text rest
-          (short_text text (both_of (is_utf8 text) (has_text_form text) is).1),
+          (short_text text (and_parts (is_utf8 text) (has_text_form text) is).1),
       is,
     ) refl
 
@@ -218,7 +217,7 @@ values_again [] [] rest fits = refl
 values_again [] (v ∷ values) rest fits = absurd cc
 values_again (k ∷ kinds) [] rest fits = absurd cc
 values_again (k ∷ kinds) (v ∷ values) rest fits =
-    let parts = both_of (value_fits k v) (values_fit kinds values) fits in
+    let parts = and_parts (value_fits k v) (values_fit kinds values) fits in
     rw (
       append_assoc (value_bytes v) (values_bytes values) rest,
       value_again k v (values_bytes values ++ rest) parts.0,

@@ -3,7 +3,7 @@ use Rattle.std.proofs.Common.{◌≡◌, ◌≢◌, ℕ, zero, suc, ◌+◌, ◌
 use Rattle.std.proofs.Common.{◌||◌, List, [], ◌∷◌, length, map, get_or, drop, Some, refl, sym, ap}
 use Rattle.std.proofs.Common.{◌∙◌, add-one, arith}
 use Rattle.std.specs.Prelude.{slice_get, is_some}
-use Rattle.gm_base.proofs.Booleans.{both_of}
+use Rattle.std.proofs.lemmas.Bool.{and_parts}
 use Rattle.gm_calendar.specs.Bin.{bin_at}
 use Rattle.gm_types.specs.declared.attribute.Attribute.{Attribute}
 use Rattle.gm_types.specs.declared.kind.Kind.{Kind}
@@ -76,7 +76,7 @@ pub same_count : (ks : List Kind) (values : List Value) → values_fit ks values
 same_count [] [] fit = refl
 same_count [] (v ∷ values) fit = absurd cc
 same_count (k ∷ ks) [] fit = absurd cc
-same_count (k ∷ ks) (v ∷ values) fit = ap suc (same_count ks values (both_of _ _ fit).1)
+same_count (k ∷ ks) (v ∷ values) fit = ap suc (same_count ks values (and_parts _ _ fit).1)
 
 pub fits_at : (ks : List Kind) (values : List Value) (n : ℕ) (k : Kind)
     → values_fit ks values ≡ true → slice_get ks n ≡ Some k
@@ -85,8 +85,8 @@ fits_at [] values n k fit at = absurd cc
 fits_at (kind ∷ ks) [] n k fit at = absurd cc
 fits_at (kind ∷ ks) (v ∷ values) zero k fit at =
     let same : kind ≡ k = cc in
-    ap (λ x. value_fits x v) (sym same) ∙ (both_of _ _ fit).0
-fits_at (kind ∷ ks) (v ∷ values) (suc n) k fit at = fits_at ks values n k (both_of _ _ fit).1 at
+    ap (λ x. value_fits x v) (sym same) ∙ (and_parts _ _ fit).0
+fits_at (kind ∷ ks) (v ∷ values) (suc n) k fit at = fits_at ks values n k (and_parts _ _ fit).1 at
 
 -- a default date of a feature that fits has a bin where an index over time is enabled
 pub date_fits : (t : Specification) (f : Feature) (n : ℕ) (at : ℤ) → Fits t f
@@ -107,7 +107,7 @@ pub sound_at : (ks : List Kind) (values : List Value) (i : ℕ) (v : Value)
 sound_at ks [] i v fit within is = absurd (omega arith)
 sound_at [] (w ∷ values) i v fit within is = absurd cc
 sound_at (k ∷ ks) (w ∷ values) zero v fit within is =
-    let here = both_of (value_fits k w) (values_fit ks values) fit in
-    ap is_sound is ∙ (both_of (is_of_kind k w) (is_sound w) here.0).1
+    let here = and_parts (value_fits k w) (values_fit ks values) fit in
+    ap is_sound is ∙ (and_parts (is_of_kind k w) (is_sound w) here.0).1
 sound_at (k ∷ ks) (w ∷ values) (suc i) v fit within is =
-    sound_at ks values i v (both_of (value_fits k w) (values_fit ks values) fit).1 (omega arith) is
+    sound_at ks values i v (and_parts (value_fits k w) (values_fit ks values) fit).1 (omega arith) is

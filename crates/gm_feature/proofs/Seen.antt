@@ -7,7 +7,7 @@ use Rattle.std.specs.Int.RustNames.{FitsSigned}
 use Rattle.std.specs.Option.{ForSome}
 use Rattle.std.specs.Prelude.{is_none, if◌then◌else◌}
 use Rattle.std.proofs.lemmas.Int.{to_z-of_z}
-use Rattle.gm_base.proofs.Booleans.{both_of}
+use Rattle.std.proofs.lemmas.Bool.{and_parts}
 use Rattle.gm_calendar.specs.Instant.{is_instant, instant_at}
 use Rattle.gm_geom.specs.declared.geometry.Geometry.{Geometry}
 use Rattle.gm_geom.specs.declared.geometry.Geometry.TheVariants as geo
@@ -93,7 +93,7 @@ values_before [] [] (suc n) fit = refl
 values_before [] (v ∷ values) (suc n) fit = absurd cc
 values_before (a ∷ attributes) [] (suc n) fit = absurd cc
 values_before (a ∷ attributes) (v ∷ values) (suc n) fit =
-    let parts = both_of (value_fits a.kind v) (values_fit (kinds attributes) values) fit in
+    let parts = and_parts (value_fits a.kind v) (values_fit (kinds attributes) values) fit in
     rw (
       value_again a.kind v (values_bytes values) parts.0,
       values_before attributes values n parts.1,
@@ -108,10 +108,10 @@ value_there [] values n d lt fit = absurd (omega arith)
 value_there (a ∷ attributes) [] n d lt fit = absurd cc
 value_there (a ∷ attributes) (v ∷ values) zero d lt fit =
     value_again a.kind v (values_bytes values)
-    (both_of (value_fits a.kind v) (values_fit (kinds attributes) values) fit).0
+    (and_parts (value_fits a.kind v) (values_fit (kinds attributes) values) fit).0
 value_there (a ∷ attributes) (v ∷ values) (suc n) d lt fit =
     value_there attributes values n d (omega arith)
-    (both_of (value_fits a.kind v) (values_fit (kinds attributes) values) fit).1
+    (and_parts (value_fits a.kind v) (values_fit (kinds attributes) values) fit).1
 
 -- whether the value in a place is null is told of what is left there
 pub null_there : (attributes : List Attribute) (values : List Value) (n : ℕ) (told : Bool)
@@ -135,7 +135,7 @@ no_value_there (a ∷ attributes) [] n le fit = absurd cc
 no_value_there (a ∷ attributes) (v ∷ values) zero le fit = absurd (omega arith)
 no_value_there (a ∷ attributes) (v ∷ values) (suc n) le fit =
     no_value_there attributes values n (omega arith)
-    (both_of (value_fits a.kind v) (values_fit (kinds attributes) values) fit).1
+    (and_parts (value_fits a.kind v) (values_fit (kinds attributes) values) fit).1
 
 -- the identifier is read of the bytes of a feature that fits
 pub stored_identifier : (s : Stored) (f : Feature) → IsStored s f
@@ -152,9 +152,9 @@ first_read s a rest first others list is =
     let fit : values_fit (kinds (a ∷ rest)) (first ∷ others) ≡ true =
     subst (λ (attributes : List Attribute). values_fit (kinds attributes) (first ∷ others)
     ≡ true) list is.fit in
-    let parts = both_of (value_fits a.kind first) (values_fit (kinds rest) others) fit in (
+    let parts = and_parts (value_fits a.kind first) (values_fit (kinds rest) others) fit in (
       ap (value_from a.kind) is.same ∙ value_again a.kind first (values_bytes others) parts.0,
-      (both_of (is_of_kind a.kind first) (is_sound first) parts.0).1,
+      (and_parts (is_of_kind a.kind first) (is_sound first) parts.0).1,
       parts.1,
     )
 

@@ -6,10 +6,9 @@ use Rattle.std.specs.Prelude.{is_none}
 use Rattle.std.specs.Int.{w32, to_be_bytes}
 use Rattle.std.specs.Int.RustNames.{FitsSigned}
 use Rattle.std.specs.List.{list_all, flat_map, AllByRecursion}
-use Rattle.std.proofs.lemmas.Bool.{eqb-true}
+use Rattle.std.proofs.lemmas.Bool.{eqb-true, and_parts}
 use Rattle.std.proofs.lemmas.Grind.{common_steps}
 use Rattle.gm_base.proofs.Options.{none_is}
-use Rattle.gm_base.proofs.Booleans.{both_of}
 use Rattle.gm_geom.specs.declared.geometry.Geometry.{Geometry}
 use Rattle.gm_geom.specs.declared.geometry.Geometry.TheVariants as geo
 use Rattle.gm_geom.specs.declared.point.Point.{Point}
@@ -37,12 +36,12 @@ world_fits n (negsuc m) small within = grind (arith, common_steps)
 fits_x : (p : Point) → is_in_world p ≡ true → FitsSigned w32 p.x
 fits_x p within =
     world_fits 1800000000 p.x (omega arith)
-    (both_of (is_within 1800000000 p.x) (is_within 900000000 p.y) within).0
+    (and_parts (is_within 1800000000 p.x) (is_within 900000000 p.y) within).0
 
 fits_y : (p : Point) → is_in_world p ≡ true → FitsSigned w32 p.y
 fits_y p within =
     world_fits 900000000 p.y (omega arith)
-    (both_of (is_within 1800000000 p.x) (is_within 900000000 p.y) within).1
+    (and_parts (is_within 1800000000 p.x) (is_within 900000000 p.y) within).1
 
 point_takes : Reads point_from point_bytes
 unfolding point_from
@@ -122,7 +121,7 @@ each_placed : (points : List Point) → list_all is_in_world points ≡ true
     → AllByRecursion IsPlaced points
 each_placed [] within = tt
 each_placed (p ∷ points) within =
-    let parts = both_of (is_in_world p) (list_all is_in_world points) within in
+    let parts = and_parts (is_in_world p) (list_all is_in_world points) within in
     (parts.0, each_placed points parts.1)
 
 placed : (points : List Point) → list_all is_in_world points ≡ true → length points ≤ 10000
@@ -133,7 +132,7 @@ all_in-append : (xs ys : List Point) → list_all is_in_world (xs ++ ys) ≡ tru
     → (list_all is_in_world xs ≡ true) × (list_all is_in_world ys ≡ true)
 all_in-append [] ys within = (refl, within)
 all_in-append (x ∷ xs) ys within =
-    let parts = both_of (is_in_world x) (list_all is_in_world (xs ++ ys)) within in
+    let parts = and_parts (is_in_world x) (list_all is_in_world (xs ++ ys)) within in
     let later = all_in-append xs ys parts.1 in
     (ap (λ b. b && list_all is_in_world xs) parts.0 ∙ later.0, later.1)
 
@@ -282,7 +281,7 @@ body_again : (g : Geometry) (rest : List ℕ) → IsKept g
     → body_from (shape_byte g) (body_bytes g ++ rest) ≡ Some (g, rest)
 unfolding body_from
 body_again (geo.Point p) rest k =
-    rw (point_again p rest (both_of (is_in_world p) true k.in_world).0) refl
+    rw (point_again p rest (and_parts (is_in_world p) true k.in_world).0) refl
 body_again (geo.Line points) rest k =
     rw (points_again points rest (placed points k.in_world k.few)) refl
 body_again (geo.Area rings) rest k =
@@ -319,5 +318,5 @@ pub geometry_again : (shape : GeoKind) (g : Geometry) (rest : List ℕ)
     → geometry_from shape (geometry_bytes g ++ rest) ≡ Some (g, rest)
 unfolding geometry_from
 geometry_again shape g rest fits =
-    let sound = none_is (fault_of g) (both_of (has_shape shape g) (is_none (fault_of g)) fits).1 in
+    let sound = none_is (fault_of g) (and_parts (has_shape shape g) (is_none (fault_of g)) fits).1 in
     rw (body_again g rest (kept g sound), fits) refl

@@ -6,9 +6,9 @@ use Rattle.std.specs.Prelude.{nat_le}
 use Rattle.std.specs.Int.{w32, to_be_bytes}
 use Rattle.std.specs.List.{flat_map, list_all, list_any}
 use Rattle.std.specs.Str.{is_utf8}
-use Rattle.std.proofs.lemmas.Bool.{leb-true}
+use Rattle.std.proofs.lemmas.Bool.{leb-true, and_parts}
 use Rattle.gm_base.proofs.Options.{none_is}
-use Rattle.gm_base.proofs.Booleans.{neither_of, both_of}
+use Rattle.gm_base.proofs.Booleans.{neither_of}
 use Rattle.gm_geom.specs.declared.geometry.Geometry.{Geometry}
 use Rattle.gm_geom.specs.declared.geometry.Geometry.TheVariants as geo
 use Rattle.gm_geom.specs.declared.point.Point.{Point}
@@ -106,14 +106,14 @@ size_of_body (geo.ManyAreas areas) none =
 
 size_of_text : (text : List ℕ) → has_text_form text ≡ true → length text ≤ 1048576
 size_of_text text form =
-    let parts = both_of (nat_le 1 (length text) && nat_le (length text) 1048576)
+    let parts = and_parts (nat_le 1 (length text) && nat_le (length text) 1048576)
     (list_all is_no_zero text) form in
-    leb-true _ _ (both_of (nat_le 1 (length text)) (nat_le (length text) 1048576) parts.0).1
+    leb-true _ _ (and_parts (nat_le 1 (length text)) (nat_le (length text) 1048576) parts.0).1
 
 size_of_value : (v : Value) → is_sound v ≡ true → length (value_bytes v) ≤ 1048581
 size_of_value value.Null sound = omega arith
 size_of_value (value.Text text) sound =
-    let few = size_of_text text (both_of (is_utf8 text) (has_text_form text) sound).1 in
+    let few = size_of_text text (and_parts (is_utf8 text) (has_text_form text) sound).1 in
     omega (arith, length-append (to_be_bytes w32 (length text)) text)
 size_of_value (value.Integer z) sound = omega arith
 size_of_value (value.Long z) sound = omega arith
@@ -129,8 +129,8 @@ size_of_values [] [] fit = omega arith
 size_of_values [] (v ∷ values) fit = absurd cc
 size_of_values (k ∷ kinds) [] fit = absurd cc
 size_of_values (k ∷ kinds) (v ∷ values) fit =
-    let parts = both_of (value_fits k v) (values_fit kinds values) fit in
-    let here = size_of_value v (both_of (is_of_kind k v) (is_sound v) parts.0).1 in
+    let parts = and_parts (value_fits k v) (values_fit kinds values) fit in
+    let here = size_of_value v (and_parts (is_of_kind k v) (is_sound v) parts.0).1 in
     let later = size_of_values kinds values parts.1 in
     omega (arith, length-append (value_bytes v) (values_bytes values))
 

@@ -4,10 +4,9 @@ use Rattle.std.proofs.Common.{refl, sym, ap, subst, ◌∙◌, arith}
 use Rattle.std.specs.Prelude.{nat_le}
 use Rattle.std.specs.Int.{w16}
 use Rattle.std.specs.List.{list_all}
-use Rattle.std.proofs.lemmas.Bool.{eqb-true, leb-true}
+use Rattle.std.proofs.lemmas.Bool.{eqb-true, leb-true, and_parts}
 use Rattle.std.proofs.lemmas.List.{append-nil, nil_from_length}
 use Rattle.std.specs.Str.{is_utf8}
-use Rattle.gm_base.proofs.Booleans.{both_of}
 use Rattle.gm_base.specs.Identifier.{is_identifier, has_identifier_form, is_printable}
 use Rattle.gm_types.specs.Specification.{Specification, kinds_of}
 use Rattle.gm_feature.specs.declared.feature.Feature.{Feature}
@@ -21,10 +20,10 @@ use Rattle.gm_feature.proofs.Fields.{string_takes, string_again}
 
 pub short_identifier : (id : List ℕ) → is_identifier id ≡ true → length id ≤ 128
 short_identifier id is =
-    let form = (both_of (is_utf8 id) (has_identifier_form id) is).1 in
-    let long = (both_of (nat_le 1 (length id) && nat_le (length id) 128)
+    let form = (and_parts (is_utf8 id) (has_identifier_form id) is).1 in
+    let long = (and_parts (nat_le 1 (length id) && nat_le (length id) 128)
     (list_all is_printable id) form).0 in
-    leb-true _ _ (both_of (nat_le 1 (length id)) (nat_le (length id) 128) long).1
+    leb-true _ _ (and_parts (nat_le 1 (length id)) (nat_le (length id) 128) long).1
 
 identifier_takes : (bytes : List ℕ) (x : List ℕ × List ℕ) → IsBytes bytes
     → identifier_from bytes ≡ Some x
@@ -57,7 +56,7 @@ feature_takes t bytes f fits e =
     (record { id = a.0.0; values = values.0 })) f a.2 in
     let made : Feature = record { id = a.0.0; values = b.0.0 } in
     let o = only_some ((eqb (length b.0.1) 0) && dates_fit t b.0.0) made f b.2 in
-    let tests = both_of (eqb (length b.0.1) 0) (dates_fit t b.0.0) o.0 in
+    let tests = and_parts (eqb (length b.0.1) 0) (dates_fit t b.0.0) o.0 in
     let first = identifier_takes bytes a.0 fits a.1 in
     let second = values_take (kinds_of t) a.0.1 b.0 first.0.rest_fits b.1 in
     let nothing : b.0.1 ≡ [] = nil_from_length b.0.1 (eqb-true _ _ tests.0) in

@@ -13,7 +13,7 @@ use Rattle.std.proofs.lemmas.Str.{IsUtf8-from_is_utf8}
 use Rattle.std.specs.Int.{w32, w64}
 use lib.Signed.{mag}
 use Rattle.byteorder.specs.Endian.{big_bytes}
-use Rattle.gm_base.proofs.Booleans.{both_of}
+use Rattle.std.proofs.lemmas.Bool.{and_parts}
 use Rattle.gm_base.proofs.Lists.{within_list}
 use Rattle.gm_base.proofs.Options.{then_some}
 use Rattle.gm_calendar.specs.Instant.{IsInstant, is_instant}
@@ -140,14 +140,14 @@ some_bytes : (text : List ℕ) → list_all is_no_zero text ≡ true
     → AllByRecursion (λ byte. 0 < byte) text
 some_bytes [] all = tt
 some_bytes (zero ∷ text) all = cc
-some_bytes (suc b ∷ text) all = (omega arith, some_bytes text (both_of _ _ all).1)
+some_bytes (suc b ∷ text) all = (omega arith, some_bytes text (and_parts _ _ all).1)
 
 int_fits : (w : ℕ) (z : ℤ) → is_below w z ≡ true → mag z < w
 int_fits w (pos n) is = grind (arith, common_steps)
 int_fits w (negsuc n) is = grind (arith, common_steps)
 
 instant_is : (at : ℤ) → is_instant at ≡ true → IsInstant at
-instant_is at is = let both = both_of _ _ is in
+instant_is at is = let both = and_parts _ _ is in
     (record { le = subst T (sym both.0) tt }, record { le = subst T (sym both.1) tt })
 
 same_list : (a b : List ℕ) → ◌≡◌ {A = Option (List ℕ)} (Some a) (Some b) → b ≡ a
@@ -162,12 +162,12 @@ geometry_form shape _ form fit is = cc
 one_form : (k : Kind) (v : Value) (form : List ℕ) → value_fits k v ≡ true → form_of v ≡ Some form
     → IsForm (Some k) form
 one_form kind.Text (value.Text text) form fit is =
-    let sound = both_of _ _ fit in (
+    let sound = and_parts _ _ fit in (
       text,
       record {
         utf8 = IsUtf8-from_is_utf8 text sound.0;
         no_zero = All-from_recursion (λ byte. 0 < byte) text
-            (some_bytes text (both_of _ _ sound.1).1);
+            (some_bytes text (and_parts _ _ sound.1).1);
       },
       same_list (text_bytes text) form is,
     )
@@ -186,9 +186,9 @@ form_fits : (kinds : List Kind) (values : List Value) (n : ℕ) (form : List ℕ
     → IsForm (slice_get kinds n) form
 form_fits kinds [] n form fit is = cc
 form_fits [] (v ∷ values) n form fit is = cc
-form_fits (k ∷ kinds) (v ∷ values) zero form fit is = one_form k v form (both_of _ _ fit).0 is
+form_fits (k ∷ kinds) (v ∷ values) zero form fit is = one_form k v form (and_parts _ _ fit).0 is
 form_fits (k ∷ kinds) (v ∷ values) (suc n) form fit is =
-    form_fits kinds values n form (both_of _ _ fit).1 is
+    form_fits kinds values n form (and_parts _ _ fit).1 is
 
 code_parts : (t : Specification) (k : IndexKind) (id front key : List ℕ) (shard code : ℕ)
     → front ≡ code_front (prefix_of t k) shard code → key ≡ front ++ id
@@ -336,7 +336,7 @@ pub indexed_within : (t : Specification) (n : ℕ) → has_index t (Attr n) ≡ 
     → n < length t.attributes
 indexed_within t n has =
     within_list t.attributes n
-    (λ none. true≢false (sym (both_of _ _ has).0 ∙ ap is_indexed_one none))
+    (λ none. true≢false (sym (and_parts _ _ has).0 ∙ ap is_indexed_one none))
 
 small_index : (t : Specification) (k : IndexKind) → IsType t → has_index t k ≡ true → IsSmall k
 small_index t (Attr n) typed has = let within = indexed_within t n has in

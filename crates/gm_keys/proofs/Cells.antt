@@ -5,7 +5,7 @@ use Rattle.std.proofs.lemmas.Int.{to_z-of_z, ints}
 use Rattle.std.proofs.lemmas.Grind.{common_steps}
 use mir.Val.{SFits, of_z, to_z}
 use mir.Syntax.{w32}
-use Rattle.gm_base.proofs.Booleans.{both_of}
+use Rattle.std.proofs.lemmas.Bool.{and_parts}
 use Rattle.gm_curve.specs.Curve.{IsAtMost}
 use Rattle.gm_curve.specs.Scale.{normal_of}
 use Rattle.gm_geom.specs.Validity.{is_within, is_in_world}
@@ -17,10 +17,10 @@ world_fits n (pos m) small within = grind (arith, common_steps)
 world_fits n (negsuc m) small within = grind (arith, common_steps)
 
 pub same_x : (p : Point) → is_in_world p ≡ true → to_z w32 (of_z w32 p.x) ≡ p.x
-same_x p within = to_z-of_z w32 p.x (world_fits 1800000000 p.x (omega arith) (both_of _ _ within).0)
+same_x p within = to_z-of_z w32 p.x (world_fits 1800000000 p.x (omega arith) (and_parts _ _ within).0)
 
 pub same_y : (p : Point) → is_in_world p ≡ true → to_z w32 (of_z w32 p.y) ≡ p.y
-same_y p within = to_z-of_z w32 p.y (world_fits 900000000 p.y (omega arith) (both_of _ _ within).1)
+same_y p within = to_z-of_z w32 p.y (world_fits 900000000 p.y (omega arith) (and_parts _ _ within).1)
 
 along_is : (half : ℕ) (z : ℤ) → is_within half z ≡ true → pos (along half z) ≡ z +ℤ pos half
 along_is half (pos m) fits = refl
@@ -50,13 +50,13 @@ pub longitude_rises : (bits : ℕ) (p q : Point) → Rises → is_in_world p ≡
     → p.x ≤ℤ q.x → longitude_cell bits p.x ≤ longitude_cell bits q.x
 longitude_rises bits p q rises fits fits' less =
     rises (along 1800000000 p.x) (along 1800000000 q.x) 3600000000 bits
-    (along_rises 1800000000 p.x q.x (both_of _ _ fits).0 (both_of _ _ fits').0 less)
+    (along_rises 1800000000 p.x q.x (and_parts _ _ fits).0 (and_parts _ _ fits').0 less)
 
 pub latitude_rises : (bits : ℕ) (p q : Point) → Rises → is_in_world p ≡ true → is_in_world q ≡ true
     → p.y ≤ℤ q.y → latitude_cell bits p.y ≤ latitude_cell bits q.y
 latitude_rises bits p q rises fits fits' less =
     rises (along 900000000 p.y) (along 900000000 q.y) 1800000000 bits
-    (along_rises 900000000 p.y q.y (both_of _ _ fits).1 (both_of _ _ fits').1 less)
+    (along_rises 900000000 p.y q.y (and_parts _ _ fits).1 (and_parts _ _ fits').1 less)
 
 pub two_at_most : (a b a' b' : ℕ) → a ≤ a' → b ≤ b' → IsAtMost (a ∷ b ∷ []) (a' ∷ b' ∷ [])
 two_at_most a b a' b' first second zero = first

@@ -4,7 +4,7 @@ use Rattle.std.proofs.Common.{get_or, Option, Some, None, is_some, is_none, opti
 use Rattle.std.proofs.Common.{option_and_then, option_to_list, refl, sym, ap, ◌∙◌}
 use Rattle.std.specs.Prelude.{slice_get}
 use Rattle.std.specs.List.{list_any}
-use Rattle.gm_base.proofs.Booleans.{both_of}
+use Rattle.std.proofs.lemmas.Bool.{and_parts}
 use Rattle.gm_base.proofs.Options.{none_is}
 use Rattle.gm_base.proofs.Booleans.{or_false}
 use Rattle.gm_calendar.specs.Bin.{bin_at}
@@ -61,7 +61,7 @@ box_value : ValueLaws → (s : GeoKind) (v : Value) → value_fits (kind.Geo s) 
     → is_none (option_and_then box_of (geometry_of v)) ≡ is_null v
 box_value laws s value.Null fit = refl
 box_value laws s (value.Geo g) fit =
-    ap is_none (laws.extent g (none_is (fault_of g) (both_of _ _ fit).1)).1
+    ap is_none (laws.extent g (none_is (fault_of g) (and_parts _ _ fit).1)).1
 box_value laws s _ fit = cc
 
 some_is : {A : Type 0} (o : Option A) → is_some o ≡ true → is_none o ≡ false
@@ -239,6 +239,6 @@ missing laws t (Attr n) f holds fits has =
         past kinds [] n fit at = refl
         past [] (v ∷ values) n fit at = cc
         past (k ∷ kinds) (v ∷ values) zero fit at = cc
-        past (k ∷ kinds) (v ∷ values) (suc n) fit at = past kinds values n (both_of _ _ fit).1 at
+        past (k ∷ kinds) (v ∷ values) (suc n) fit at = past kinds values n (and_parts _ _ fit).1 at
     value_missing (Some k) at plain =
         form_value k (value_at f n) plain (laws.value t f n k fits at)

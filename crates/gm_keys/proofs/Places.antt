@@ -5,7 +5,7 @@ use Rattle.std.proofs.Common.{None, refl, sym, ap, ◌∙◌, arith}
 use Rattle.std.proofs.lemmas.Int.{ints}
 use Rattle.std.proofs.lemmas.Grind.{common_steps}
 use Rattle.std.specs.List.{list_all}
-use Rattle.gm_base.proofs.Booleans.{both_of, both_from}
+use Rattle.std.proofs.lemmas.Bool.{and_parts, and_from}
 use Rattle.gm_base.proofs.Options.{none_is}
 use Rattle.gm_geom.specs.declared.point.Point.{Point}
 use Rattle.gm_geom.specs.declared.point.Box2.{Box2}
@@ -27,8 +27,8 @@ pub sound_at : (kinds : List Kind) (values : List Value) (n : ℕ) → values_fi
     → is_sound (get_or values n value.Null) ≡ true
 sound_at kinds [] n fit = refl
 sound_at [] (v ∷ values) n fit = cc
-sound_at (k ∷ kinds) (v ∷ values) zero fit = (both_of _ _ (both_of _ _ fit).0).1
-sound_at (k ∷ kinds) (v ∷ values) (suc n) fit = sound_at kinds values n (both_of _ _ fit).1
+sound_at (k ∷ kinds) (v ∷ values) zero fit = (and_parts _ _ (and_parts _ _ fit).0).1
+sound_at (k ∷ kinds) (v ∷ values) (suc n) fit = sound_at kinds values n (and_parts _ _ fit).1
 
 -- a geometry among them is kept
 pub kept_at : (kinds : List Kind) (values : List Value) (n : ℕ) (v : Value) (g : Geometry)
@@ -59,19 +59,19 @@ world = record {
 
 in_world_box : (p : Point) → is_in_world p ≡ true → IsInBox world p
 in_world_box p within =
-    let x = from_within 1800000000 p.x (both_of _ _ within).0 in
-    let y = from_within 900000000 p.y (both_of _ _ within).1 in
+    let x = from_within 1800000000 p.x (and_parts _ _ within).0 in
+    let y = from_within 900000000 p.y (and_parts _ _ within).1 in
     record { left = x.0; right = x.1; below = y.0; above = y.1 }
 
 all_in_world : (points : List Point) → list_all is_in_world points ≡ true → HoldsAll world points
 all_in_world [] all = tt
 all_in_world (p ∷ points) all =
-    (in_world_box p (both_of _ _ all).0, all_in_world points (both_of _ _ all).1)
+    (in_world_box p (and_parts _ _ all).0, all_in_world points (and_parts _ _ all).1)
 
 corner : (p : Point) → neg_ℤ (pos 1800000000) ≤ℤ p.x → p.x ≤ℤ pos 1800000000
     → neg_ℤ (pos 900000000) ≤ℤ p.y → p.y ≤ℤ pos 900000000 → is_in_world p ≡ true
 corner p left right below above =
-    both_from _ _ (to_within 1800000000 p.x left right) (to_within 900000000 p.y below above)
+    and_from _ _ (to_within 1800000000 p.x left right) (to_within 900000000 p.y below above)
 
 pub extent_in_world : (points : List Point) (box : Box2) → list_all is_in_world points ≡ true
     → extent_of points ≡ Some box → IsLeastBox box points → IsBoxInWorld box

@@ -9,9 +9,10 @@ use Rattle.std.specs.List.{AllByRecursion}
 use Rattle.std.proofs.lemmas.List.Sums.{length-filter}
 use Rattle.std.specs.FinMap as features
 use Rattle.std.specs.FinMap.{entries_sorted, get-entries}
+use Rattle.std.proofs.lemmas.Bool.{and_parts}
 use Rattle.gm_base.proofs.Options.{same_some}
 use Rattle.gm_base.proofs.Lists.{each_as, all_append}
-use Rattle.gm_base.proofs.Booleans.{both_of, or_true, false_of_never}
+use Rattle.gm_base.proofs.Booleans.{or_true, false_of_never}
 use Rattle.gm_base.specs.Spans.{Span}
 use Rattle.gm_table.specs.Apart.{times_inside, AreApart}
 use Rattle.gm_table.specs.Sorted.{Rows, RowMap, at_key, is_within, between}
@@ -85,7 +86,7 @@ SameBytes = (t : Specification) (f g : Feature) → Fits t f → Fits t g
 
 pub index_applies : (s : Specification) (kind : IndexKind) (t : Tree) → does_apply s kind t ≡ true
     → has_index s kind ≡ true
-index_applies s kind t is = (both_of (has_index s kind) (can_serve s kind t) is).0
+index_applies s kind t is = (and_parts (has_index s kind) (can_serve s kind t) is).0
 
 -- ---- whose a row is
 abbrev Row : Type 0

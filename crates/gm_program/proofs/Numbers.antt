@@ -7,7 +7,7 @@ use Rattle.std.specs.Str.Parse.{AllDigits, IsNumeral, digits_value, without_lead
 use Rattle.std.proofs.lemmas.Bool.Decides.{nat_tests}
 use Rattle.clap.specs.Walk.{is_empty}
 use Rattle.gm_base.proofs.Numbers.{no_plus}
-use Rattle.gm_base.proofs.Booleans.{both_of}
+use Rattle.std.proofs.lemmas.Bool.{and_parts}
 use Rattle.gm_program.specs.Words.{is_padded_text, is_plain_number, number_between}
 
 low_digit : (c : ℕ) → is_ascii_digit c ≡ true → digit_value c < 10
@@ -17,7 +17,7 @@ all_digits : (bytes : List ℕ) → list_all is_ascii_digit bytes ≡ true → A
 all_digits [] all = tt
 all_digits (b ∷ bytes) all =
     let each : (is_ascii_digit b ≡ true) × (list_all is_ascii_digit bytes ≡ true) =
-    both_of (is_ascii_digit b) (list_all is_ascii_digit bytes) all in
+    and_parts (is_ascii_digit b) (list_all is_ascii_digit bytes) all in
     (low_digit b each.0, all_digits bytes each.1)
 
 -- digits have no plus before them
@@ -25,7 +25,7 @@ bare : (bytes : List ℕ) → list_all is_ascii_digit bytes ≡ true → without
 bare [] all = refl
 bare (b ∷ bytes) all =
     let each : (is_ascii_digit b ≡ true) × (list_all is_ascii_digit bytes ≡ true) =
-    both_of (is_ascii_digit b) (list_all is_ascii_digit bytes) all in
+    and_parts (is_ascii_digit b) (list_all is_ascii_digit bytes) all in
     ap (λ t. drop (cond t 1 0) (b ∷ bytes)) (no_plus b each.0)
 
 some : (bytes : List ℕ) → not (is_empty bytes) ≡ true → 0 < length bytes
@@ -40,9 +40,9 @@ pub refused : (least most : ℕ) (bytes : List ℕ) → most < 2 ^ 64
 refused least most bytes small refusal plain =
     let parts : (not (is_empty bytes) ≡ true)
     × ((list_all is_ascii_digit bytes && not (is_padded_text bytes)) ≡ true) =
-    both_of (not (is_empty bytes)) _ plain in
+    and_parts (not (is_empty bytes)) _ plain in
     let digits : (list_all is_ascii_digit bytes ≡ true) × (not (is_padded_text bytes) ≡ true) =
-    both_of (list_all is_ascii_digit bytes) _ parts.1 in
+    and_parts (list_all is_ascii_digit bytes) _ parts.1 in
     let no_bare : ¬ (IsNumeral 10 bytes × (digits_value 10 bytes < 2 ^ 64)) =
     subst (λ ds. ¬ (IsNumeral 10 ds × (digits_value 10 ds < 2 ^ 64)))
     (bare bytes digits.0) refusal in

@@ -19,7 +19,8 @@ use Rattle.std.proofs.lemmas.List.Sorted.{All-permutation, IsPermutation-map}
 use Rattle.std.proofs.lemmas.List.Sorted.{list_any-IsPermutation}
 use Rattle.std.proofs.lemmas.Map.Keys.{sorted_head, sorted_tail}
 use Rattle.std.proofs.lemmas.Map.Text.{is_eq-slice_cmp}
-use Rattle.gm_base.proofs.Booleans.{true_or_false, both_of, both_from-T}
+use Rattle.std.proofs.lemmas.Bool.{and_parts}
+use Rattle.gm_base.proofs.Booleans.{true_or_false, both_from-T}
 use Rattle.gm_scan.specs.FoundRows.{FoundRow}
 use Rattle.gm_program.specs.InOrder.{put_all, in_order, seen}
 use Rattle.gm_program.proofs.Collected.{is_key, same_key, insert_put}
@@ -143,7 +144,7 @@ twice false c = refl
 
 same_ids : (x y : Lent) → are_same x y ≡ true → x.0.now ≡ y.0.now
 same_ids x y same = (bytes_decides x.0.now y.0.now).0
-    (both_of (bytes_eq x.0.now y.0.now) (bytes_eq x.1.now y.1.now) same).0
+    (and_parts (bytes_eq x.0.now y.0.now) (bytes_eq x.1.now y.1.now) same).0
 
 has_dropped : (id : List ℕ) (x : Lent) (rows : List Lent)
     → has id (map seen (dedup_from are_same x rows)) ≡ has id (map seen (x ∷ rows))

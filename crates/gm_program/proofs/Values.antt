@@ -7,7 +7,7 @@ use Rattle.std.proofs.Math.Dec.{compare_is_eq}
 use Rattle.std.proofs.lemmas.Option.{slice_get_within}
 use Prim.Native.Nat.compare
 use Rattle.gm_base.proofs.Options.{same_some}
-use Rattle.gm_base.proofs.Booleans.{both_of, both_from}
+use Rattle.std.proofs.lemmas.Bool.{and_parts, and_from}
 use Rattle.gm_types.specs.declared.kind.Kind.{Kind}
 use Rattle.gm_types.specs.Specification.{Specification, kinds_of, default_date_of, period_of}
 use Rattle.gm_feature.specs.declared.feature.Feature.{Feature}
@@ -27,12 +27,12 @@ set_fits [] [] place k v fit there new = refl
 set_fits [] (x ∷ xs) place k v fit there new = absurd (true≢false (sym fit))
 set_fits (c ∷ cs) [] place k v fit there new = absurd (true≢false (sym fit))
 set_fits (c ∷ cs) (x ∷ xs) zero k v fit there new =
-    both_from (value_fits c v) (values_fit cs xs)
+    and_from (value_fits c v) (values_fit cs xs)
     (subst (λ (d : Kind). value_fits d v ≡ true) (sym (same_some c k there)) new)
-    (both_of (value_fits c x) (values_fit cs xs) fit).1
+    (and_parts (value_fits c x) (values_fit cs xs) fit).1
 set_fits (c ∷ cs) (x ∷ xs) (suc i) k v fit there new =
-    let h = both_of (value_fits c x) (values_fit cs xs) fit in
-    both_from (value_fits c x) (values_fit cs (slice_set xs i v)) h.0
+    let h = and_parts (value_fits c x) (values_fit cs xs) fit in
+    and_from (value_fits c x) (values_fit cs (slice_set xs i v)) h.0
     (set_fits cs xs i k v h.1 there new)
 
 same_suc : (j i : ℕ) → (suc j == suc i) ≡ (j == i)
@@ -81,7 +81,7 @@ as_many [] [] fit = refl
 as_many [] (x ∷ xs) fit = absurd (true≢false (sym fit))
 as_many (c ∷ cs) [] fit = absurd (true≢false (sym fit))
 as_many (c ∷ cs) (x ∷ xs) fit =
-    let rest = as_many cs xs (both_of (value_fits c x) (values_fit cs xs) fit).1 in
+    let rest = as_many cs xs (and_parts (value_fits c x) (values_fit cs xs) fit).1 in
     omega (arith, rest)
 
 -- so there is a value in a place that may take another

@@ -3,7 +3,7 @@ use Rattle.std.proofs.Common.{arith}
 use Rattle.std.specs.Prelude.{is_none}
 use Rattle.std.proofs.lemmas.Grind.{common_steps}
 use Rattle.gm_base.proofs.Options.{none_is}
-use Rattle.gm_base.proofs.Booleans.{both_of}
+use Rattle.std.proofs.lemmas.Bool.{and_parts}
 use Rattle.gm_geom.specs.declared.geometry.Geometry.{Geometry}
 use Rattle.gm_geom.specs.Validity.{fault_of}
 use Rattle.gm_types.specs.declared.kind.GeoKind.TheVariants as shape
@@ -22,7 +22,7 @@ returns-then-is_empty-clause-found c =
     grind (arith, common_steps, c.is_empty.ensures, c.if-is_empty.true) in
     let taken = geometry_takes shape.Any c.args.bytes.now (g, c.in-Ok.rest.now)
     (λ i. omega (arith, c.type_inv.bytes i)) c.in-Ok.ensures in (
-      none_is (fault_of g) (both_of (has_shape shape.Any g) (is_none (fault_of g)) taken.1).1,
+      none_is (fault_of g) (and_parts (has_shape shape.Any g) (is_none (fault_of g)) taken.1).1,
       taken.0.parts ∙ ap (λ (r : List ℕ). geometry_bytes g ++ r) nothing
           ∙ append-nil (geometry_bytes g),
     )
