@@ -1,5 +1,5 @@
 -- Bytes that texts and keys are written with: of ASCII, beside letters and digits, and the last.
-use Rattle.std.specs.Prelude.{ℕ, ◌+◌, ◌-◌, ◌*◌}
+use Rattle.std.specs.Prelude.{ℕ, ◌+◌, ◌-◌, ◌*◌, Bool, ◌==◌, ◌||◌}
 
 abbrev pub null_byte : ℕ
 null_byte = 0
@@ -90,6 +90,10 @@ delete = 127
 
 abbrev pub last_byte : ℕ
 last_byte = 255
+
+-- a space or a tab
+abbrev pub is_blank : ℕ → Bool
+is_blank byte = byte == space || byte == tab
 
 -- a number with one more digit behind it
 abbrev pub next_digit : ℕ → ℕ → ℕ

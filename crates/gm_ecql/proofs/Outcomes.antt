@@ -9,7 +9,8 @@ use Rattle.gm_ecql.specs.declared.halt.Halt.TheVariants as halt
 use Rattle.gm_ecql.specs.Halt.{Gives}
 use Rattle.std.specs.List.{prefix_len}
 use Rattle.gm_ecql.specs.declared.token.Spaced.{Spaced}
-use Rattle.gm_ecql.specs.Token.{Seen, is_blank, IsUnspaced, Spells, SpellsTokens}
+use Rattle.gm_base.specs.Ascii.{is_blank}
+use Rattle.gm_ecql.specs.Token.{Seen, IsUnspaced, Spells, SpellsTokens}
 use Rattle.gm_ecql.specs.Token.{seen, seen_spaced, seen_all, unspaced}
 use Rattle.gm_ecql.specs.Scanner.{token_at, skip_blanks}
 use Rattle.gm_ecql.specs.Outcome.{has_blank_first, listed_with, tokens_within, tokens_of}

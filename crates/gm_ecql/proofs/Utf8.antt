@@ -10,7 +10,8 @@ use Rattle.gm_calendar.specs.Spelling.{is_instant_byte}
 use Rattle.gm_ecql.specs.declared.token.Symbol.{Symbol}
 use Rattle.gm_ecql.specs.declared.token.Symbol.TheVariants as symbol
 use Rattle.gm_ecql.specs.Token.{Seen, a_keyword, a_name, a_text, an_instant, a_number, a_symbol}
-use Rattle.gm_ecql.specs.Token.{is_blank, is_word_byte, doubled, symbol_text, IsPiece, Spells}
+use Rattle.gm_base.specs.Ascii.{is_blank}
+use Rattle.gm_ecql.specs.Token.{is_word_byte, doubled, symbol_text, IsPiece, Spells}
 use Rattle.gm_ecql.proofs.Complete.{word_ascii}
 use Rattle.gm_ecql.proofs.Numbers.{number_joins, joined_ascii}
 

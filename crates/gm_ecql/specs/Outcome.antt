@@ -15,7 +15,8 @@ use Rattle.gm_ecql.specs.Judging.{NameFaults}
 use Rattle.gm_ecql.specs.Limits.{are_within, are_numbers_apart}
 use Rattle.gm_ecql.specs.Parser.{document}
 use Rattle.gm_ecql.specs.Scanner.{Found, token_at, skip_blanks}
-use Rattle.gm_ecql.specs.Token.{Seen, SpellsTokens, is_blank, is_some_list, unspaced}
+use Rattle.gm_base.specs.Ascii.{is_blank}
+use Rattle.gm_ecql.specs.Token.{Seen, SpellsTokens, is_some_list, unspaced}
 
 abbrev pub has_blank_first : List ℕ → Bool
 has_blank_first text = is_some_list (take (prefix_len is_blank text) text)

@@ -3,7 +3,7 @@ use Rattle.std.specs.Prelude.{ℕ, ◌+◌, ◌-◌, Bool, true, false, not, ◌
 use Rattle.std.specs.Prelude.{List, [], ◌∷◌, take, drop, ℤ, Option, Some, None}
 use Rattle.std.specs.List.{prefix_len}
 use Rattle.std.specs.Str.{is_utf8}
-use Rattle.gm_base.specs.Ascii.{capital_e, closing, comma, double_quote, equals_sign, greater_sign}
+use Rattle.gm_base.specs.Ascii.{capital_e, closing, comma, double_quote, equals_sign, greater_sign, is_blank}
 use Rattle.gm_base.specs.Ascii.{less_sign, opening, single_quote, slash, small_e}
 use Rattle.gm_geom.specs.Number.{number_of}
 use Rattle.gm_calendar.specs.Spelling.{instant_of, has_date_form, is_instant_byte}
@@ -12,7 +12,7 @@ use Rattle.gm_ecql.specs.declared.token.Symbol.TheVariants as symbol
 use Rattle.gm_ecql.specs.declared.keyword.Keyword.{Keyword}
 use Rattle.gm_ecql.specs.Words.{keyword_of}
 use Rattle.gm_ecql.specs.Token.{Seen, a_keyword, a_name, a_text, an_instant, a_number, a_symbol}
-use Rattle.gm_ecql.specs.Token.{is_blank, is_word_start, is_word_byte, is_no_double, is_sign}
+use Rattle.gm_ecql.specs.Token.{is_word_start, is_word_byte, is_no_double, is_sign}
 use Rattle.gm_ecql.specs.Token.{is_number_start, is_number_tail, undoubled}
 
 abbrev pub Found : Type 0

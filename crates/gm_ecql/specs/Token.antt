@@ -4,7 +4,7 @@ use Rattle.std.specs.Prelude.{◌≡◌, ℕ, ◌<◌, Bool, true, false, not, �
 use Rattle.std.specs.Prelude.{[], ◌∷◌, ◌++◌, ◌⊎◌, length, take, map, ℤ, Some, None, IsSome, IsUtf8}
 use Rattle.std.specs.List.{list_all}
 use Rattle.std.specs.Char.{is_ascii_digit, is_ascii_alphabetic, is_ascii_alphanumeric}
-use Rattle.gm_base.specs.Ascii.{closing, comma, decimal_point, double_quote, equals_sign}
+use Rattle.gm_base.specs.Ascii.{closing, comma, decimal_point, double_quote, equals_sign, is_blank}
 use Rattle.gm_base.specs.Ascii.{greater_sign, less_sign, minus_sign, opening, plus_sign}
 use Rattle.gm_base.specs.Ascii.{single_quote, slash, space, tab, underscore}
 use Rattle.gm_geom.specs.Number.{number_of}
@@ -26,9 +26,6 @@ pub data Seen : Type 0 where
   an_instant : ℤ → Seen
   a_number : List ℕ → Seen
   a_symbol : Symbol → Seen
-
-abbrev pub is_blank : ℕ → Bool
-is_blank b = b == space || b == tab
 
 abbrev pub is_word_start : ℕ → Bool
 is_word_start b = is_ascii_alphabetic b || b == underscore

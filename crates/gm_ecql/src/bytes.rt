@@ -2,11 +2,12 @@
 ghost use Rattle.std.specs.Prelude.{◌≡◌, ◌≤◌, length};
 ghost use Rattle.std.specs.List.{prefix_len};
 ghost use Rattle.gm_calendar.specs.Spelling as calendar;
+ghost use Rattle.gm_base.specs.Ascii as ascii;
 ghost use Rattle.gm_ecql.specs.Token as spec;
 
 /// A space or a tab.
 pub fn is_blank(byte: u8) -> bool
-    ensures { result ≡ spec.is_blank byte }
+    ensures { result ≡ ascii.is_blank byte }
 {
     byte == b' ' || byte == b'\t'
 }
@@ -58,7 +59,7 @@ fn is_instant_byte(byte: u8) -> bool
 
 /// How many blanks stand at the front.
 pub fn blank_count(bytes: &[u8]) -> usize
-    ensures value { result ≡ prefix_len spec.is_blank bytes.now }
+    ensures value { result ≡ prefix_len ascii.is_blank bytes.now }
     ensures within { result ≤ length bytes.now }
 {
     'bytes: for (count, byte) in bytes.iter().enumerate() {

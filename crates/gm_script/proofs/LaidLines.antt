@@ -15,7 +15,8 @@ use Rattle.gm_script.specs.Laid.{IsLaid, IsOnLine, IsLineOf}
 use Rattle.gm_script.specs.Line.{without_return, says_nothing}
 use Rattle.gm_script.specs.Order as order
 use Rattle.gm_script.specs.Reading.{refused, reading, reading_of, command_in, command_of}
-use Rattle.gm_script.specs.Words.{is_blank, is_no_blank, past_blanks, word_of, behind_word}
+use Rattle.gm_base.specs.Ascii.{is_blank}
+use Rattle.gm_script.specs.Words.{is_no_blank, past_blanks, word_of, behind_word}
 use Rattle.gm_script.specs.Words.{AreBlanks, are_no_blanks, is_word, begins_without_blank}
 
 -- those at the front that pass, and then those behind them

@@ -2,11 +2,7 @@
 use Rattle.std.specs.Prelude.{◌≡◌, ℕ, Bool, true, false, not, ◌&&◌, ◌||◌, ◌==◌, List, [], ◌∷◌, take}
 use Rattle.std.specs.Prelude.{drop}
 use Rattle.std.specs.List.{list_all, prefix_len}
-use Rattle.gm_base.specs.Ascii.{space, tab}
-
--- a space or a tab
-abbrev pub is_blank : ℕ → Bool
-is_blank byte = byte == space || byte == tab
+use Rattle.gm_base.specs.Ascii.{is_blank}
 
 abbrev pub is_no_blank : ℕ → Bool
 is_no_blank byte = not (is_blank byte)

@@ -1,11 +1,12 @@
 // The words of a line.
 ghost use Rattle.std.specs.Prelude.{◌≡◌, ◌≤◌, length, option_map};
 ghost use Rattle.std.specs.List.{prefix_len};
+ghost use Rattle.gm_base.specs.Ascii as ascii;
 ghost use Rattle.gm_script.specs.Ask as ask;
 ghost use Rattle.gm_script.specs.Words as spec;
 
 fn is_blank(byte: u8) -> bool
-    ensures { result ≡ spec.is_blank byte }
+    ensures { result ≡ ascii.is_blank byte }
 {
     byte == b' ' || byte == b'\t'
 }
@@ -17,7 +18,7 @@ fn is_no_blank(byte: u8) -> bool
 }
 
 fn blank_count(text: &[u8]) -> usize
-    ensures value { result ≡ prefix_len spec.is_blank text.now }
+    ensures value { result ≡ prefix_len ascii.is_blank text.now }
     ensures within { result ≤ length text.now }
 {
     'bytes: for (byte_place, byte) in text.iter().enumerate() {

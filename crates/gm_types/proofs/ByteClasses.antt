@@ -19,7 +19,8 @@ use Rattle.gm_types.specs.Kind.{kind_name}
 use Rattle.gm_types.specs.Spelling.{pair_text, options_text, attribute_text, star_text}
 use Rattle.gm_types.specs.Spelling.{starred_text}
 use Rattle.gm_types.specs.Words.{continues_name, is_name, is_key, is_key_byte, is_bare}
-use Rattle.gm_types.specs.Words.{is_bare_byte, is_bare_form, is_blank, is_mark, are_distinct}
+use Rattle.gm_base.specs.Ascii.{is_blank}
+use Rattle.gm_types.specs.Words.{is_bare_byte, is_bare_form, is_mark, are_distinct}
 use Rattle.gm_types.proofs.Scan.{is_plain, IsTight}
 use Rattle.gm_types.proofs.Texts.{name_bytes}
 

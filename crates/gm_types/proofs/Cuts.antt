@@ -7,7 +7,7 @@ use Rattle.std.specs.List.{onto_first}
 use Rattle.std.proofs.lemmas.Bool.{eq-eqb, ne_eqb}
 use Rattle.std.proofs.Math.Seq.{take-suc}
 use Rattle.gm_base.proofs.Options.{same_some}
-use Rattle.gm_types.specs.Words.{is_blank}
+use Rattle.gm_base.specs.Ascii.{is_blank}
 use Rattle.gm_types.specs.Parts.{turned, ends_part, parts_from, parts_of, part_len, cut_once}
 use Rattle.gm_types.specs.Parts.{before_end, trimmed_end}
 

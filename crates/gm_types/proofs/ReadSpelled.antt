@@ -33,7 +33,8 @@ use Rattle.gm_types.specs.Specification.{Specification}
 use Rattle.gm_types.specs.Spelling.{pair_text, options_text, attribute_text, star_text, value_text}
 use Rattle.gm_types.specs.Spelling.{WrittenAttribute, written_attribute, WrittenDatum}
 use Rattle.gm_types.specs.Spelling.{written_datum, data_part, has_blanks, may_be_written, Spells}
-use Rattle.gm_types.specs.Words.{is_name, is_key, is_bare, is_blank, is_quotable, same_text}
+use Rattle.gm_base.specs.Ascii.{is_blank}
+use Rattle.gm_types.specs.Words.{is_name, is_key, is_bare, is_quotable, same_text}
 use Rattle.gm_types.specs.Words.{are_distinct}
 use Rattle.gm_types.proofs.Cuts.{some_none, PartsAt, parts_first, parts_some}
 use Rattle.gm_types.proofs.Noted.{same_list}

@@ -8,7 +8,7 @@ use Rattle.std.proofs.lemmas.Bool.{and_parts, eq-eqb, not-true}
 use Rattle.std.proofs.lemmas.List.{length-append}
 use Rattle.gm_base.proofs.Options.{same_some}
 use Rattle.gm_base.proofs.Lists.{take_front}
-use Rattle.gm_types.specs.Words.{is_blank}
+use Rattle.gm_base.specs.Ascii.{is_blank}
 use Rattle.gm_types.specs.Parts.{turned, ends_part, parts_from, parts_of, part_len, cut_once}
 use Rattle.gm_types.specs.Parts.{before_end, trimmed_end, trimmed}
 use Rattle.gm_types.proofs.Cuts.{cut_none, cut_some, some_none}

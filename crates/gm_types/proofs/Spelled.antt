@@ -33,7 +33,8 @@ use Rattle.gm_types.specs.Spelling.{value_text, datum_text, WrittenAttribute, wr
 use Rattle.gm_types.specs.Spelling.{WrittenDatum, written_datum, written, has_blanks}
 use Rattle.gm_types.specs.Spelling.{may_be_written, Spells}
 use Rattle.gm_types.specs.Words.{is_name, is_key, is_key_byte, is_bare, is_bare_byte, is_bare_form}
-use Rattle.gm_types.specs.Words.{is_blank, is_quotable, has_no_quote, are_distinct}
+use Rattle.gm_base.specs.Ascii.{is_blank}
+use Rattle.gm_types.specs.Words.{is_quotable, has_no_quote, are_distinct}
 use Rattle.gm_types.proofs.Scan.{IsWhole, AreWhole, IsTight, whole_append, whole_plain}
 use Rattle.gm_types.proofs.Scan.{whole_quoted, parts_join, cut_whole, uncut_whole, trimmed_tight}
 use Rattle.std.proofs.lemmas.List.{length-append}

@@ -29,7 +29,8 @@ use Rattle.gm_types.specs.Reader.{stars_of, data_of, place_or, is_set, geometry_
 use Rattle.gm_types.specs.Reader.{stands_on_geometry, stars_fit, specification_from}
 use Rattle.gm_types.specs.Reader.{specification_if, outline_with, outline_of}
 use Rattle.gm_types.specs.Specification.{Specification, kind_at, names_of}
-use Rattle.gm_types.specs.Words.{is_name, is_key, is_bare, is_bare_byte, is_bare_form, is_blank}
+use Rattle.gm_base.specs.Ascii.{is_blank}
+use Rattle.gm_types.specs.Words.{is_name, is_key, is_bare, is_bare_byte, is_bare_form}
 use Rattle.gm_types.specs.Words.{is_mark, is_quotable, has_no_quote, are_distinct}
 use Rattle.gm_types.proofs.Cuts.{PartsAt, parts_first, some_none}
 use Rattle.gm_types.proofs.Lists.{found_at, none_found}

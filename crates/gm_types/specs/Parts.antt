@@ -3,8 +3,7 @@
 use Rattle.std.specs.Prelude.{ℕ, ◌+◌, Bool, false, not, ◌&&◌, ◌==◌, if◌then◌else◌, List, [], ◌∷◌}
 use Rattle.std.specs.Prelude.{length, take, drop, Option, Some, None}
 use Rattle.std.specs.List.{prefix_len, onto_first}
-use Rattle.gm_base.specs.Ascii.{single_quote}
-use Rattle.gm_types.specs.Words.{is_blank}
+use Rattle.gm_base.specs.Ascii.{single_quote, is_blank}
 
 -- whether a quote is open behind a byte
 abbrev pub turned : Bool → ℕ → Bool

@@ -2,7 +2,7 @@
 use Rattle.std.specs.Prelude.{◌≡◌, ℕ, zero, suc, ◌+◌, Bool, true, false, not, ◌&&◌, ◌||◌, ◌==◌}
 use Rattle.std.specs.Prelude.{List, [], ◌∷◌, ◌++◌, map, Option, Some, None}
 use Rattle.std.specs.List.{list_all, join_with_byte}
-use Rattle.gm_base.specs.Ascii.{colon, comma, equals_sign, semicolon, single_quote, star}
+use Rattle.gm_base.specs.Ascii.{colon, comma, equals_sign, semicolon, single_quote, star, is_blank}
 use Rattle.gm_types.specs.declared.attribute.Attribute.{Attribute}
 use Rattle.gm_types.specs.declared.attribute.AttributeOption.{AttributeOption}
 use Rattle.gm_types.specs.declared.datum.Datum.{Datum}
@@ -10,7 +10,7 @@ use Rattle.gm_types.specs.FeatureType.{IsValid}
 use Rattle.gm_types.specs.Kind.{kind_name}
 use Rattle.gm_types.specs.Reader.{geometry_place, stars_fit}
 use Rattle.gm_types.specs.Specification.{Specification}
-use Rattle.gm_types.specs.Words.{is_blank, is_bare, is_bare_form}
+use Rattle.gm_types.specs.Words.{is_bare, is_bare_form}
 
 -- `key=value`
 abbrev pub pair_text : AttributeOption → List ℕ

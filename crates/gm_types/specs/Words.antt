@@ -5,7 +5,7 @@ use Rattle.std.specs.List.{list_all, list_any}
 use Rattle.std.specs.Char.{is_ascii_digit, is_ascii_alphabetic}
 use Rattle.std.specs.Cmp.Lexicographic.{pointwise}
 use Rattle.std.specs.Str.{is_utf8}
-use Rattle.gm_base.specs.Ascii.{colon, comma, decimal_point, equals_sign, minus_sign, semicolon}
+use Rattle.gm_base.specs.Ascii.{colon, comma, decimal_point, equals_sign, minus_sign, semicolon, is_blank}
 use Rattle.gm_base.specs.Ascii.{single_quote, space, tab, underscore}
 
 -- two texts are the same, byte by byte
@@ -42,10 +42,6 @@ is_key_byte byte = continues_name byte || byte == decimal_point || byte == minus
 -- a key: one or more of these
 unfoldable pub is_key : List ℕ → Bool
 is_key bytes = nat_le 1 (length bytes) && list_all is_key_byte bytes
-
--- space and tab
-abbrev pub is_blank : ℕ → Bool
-is_blank byte = byte == space || byte == tab
 
 -- a comma, a semicolon, a colon, a `=` or a single quote
 abbrev pub is_mark : ℕ → Bool

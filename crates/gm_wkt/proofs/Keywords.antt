@@ -13,7 +13,8 @@ use Rattle.gm_geom.specs.declared.geometry.Geometry.{Geometry}
 use Rattle.gm_geom.specs.declared.geometry.Geometry.TheVariants as geo
 use Rattle.gm_wkt.specs.declared.keyword.Keyword.{Keyword}
 use Rattle.gm_wkt.specs.declared.keyword.Keyword.TheVariants as keyword
-use Rattle.gm_wkt.specs.Grammar.{is_blank, AreBlanks, keyword_text, keyword_of, SpellsLone}
+use Rattle.gm_base.specs.Ascii.{is_blank}
+use Rattle.gm_wkt.specs.Grammar.{AreBlanks, keyword_text, keyword_of, SpellsLone}
 use Rattle.gm_wkt.specs.Grammar.{SpellsLine, SpellsRings, SpellsLoose, SpellsPosition, SpellsList}
 use Rattle.gm_wkt.specs.Grammar.{SpellsBody, SpellsText}
 use Rattle.gm_wkt.specs.Reader.{skip_blanks, Starts, Stops}

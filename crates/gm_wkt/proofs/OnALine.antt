@@ -11,7 +11,8 @@ use Rattle.gm_geom.specs.declared.geometry.Geometry.TheVariants as geo
 use Rattle.gm_geom.specs.Number.{is_number_byte}
 use Rattle.gm_wkt.specs.declared.keyword.Keyword.{Keyword}
 use Rattle.gm_wkt.specs.declared.keyword.Keyword.TheVariants as keyword
-use Rattle.gm_wkt.specs.Grammar.{is_blank, SpellsPosition, SpellsMember, SpellsMembers, SpellsList}
+use Rattle.gm_base.specs.Ascii.{is_blank}
+use Rattle.gm_wkt.specs.Grammar.{SpellsPosition, SpellsMember, SpellsMembers, SpellsList}
 use Rattle.gm_wkt.specs.Grammar.{SpellsLine, SpellsRings, SpellsLoose, SpellsBody, SpellsText}
 use Rattle.gm_wkt.specs.Grammar.{keyword_of, keyword_text}
 

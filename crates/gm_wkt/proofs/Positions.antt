@@ -9,7 +9,8 @@ use Rattle.gm_base.proofs.Lists.{run_passes, take_drop}
 use Rattle.gm_base.proofs.Options.{map_some, then_some}
 use Rattle.gm_geom.specs.declared.point.Point.{Point}
 use Rattle.gm_geom.specs.Number.{is_number_byte}
-use Rattle.gm_wkt.specs.Grammar.{is_blank, AreBlanks, coordinate_of, SpellsNumber, SpellsPosition}
+use Rattle.gm_base.specs.Ascii.{is_blank}
+use Rattle.gm_wkt.specs.Grammar.{AreBlanks, coordinate_of, SpellsNumber, SpellsPosition}
 use Rattle.gm_wkt.specs.Reader.{skip_blanks, number_run, number_at, begins_blank, second_at}
 use Rattle.gm_wkt.specs.Reader.{position_at, Starts, Ends, Takes}
 use Rattle.gm_wkt.proofs.Scans.{take_run, drop_run, skip_over, blank_gap, number_starts, blank_ends}

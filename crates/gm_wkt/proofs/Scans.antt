@@ -6,7 +6,8 @@ use Rattle.std.specs.List.{list_all, prefix_len}
 use Rattle.std.proofs.lemmas.Bool.Decides.{nat_tests}
 use Rattle.gm_base.proofs.Lists.{take_front, drop_front, run_passes, take_drop}
 use Rattle.gm_geom.specs.Number.{is_number_byte}
-use Rattle.gm_wkt.specs.Grammar.{is_blank, AreBlanks}
+use Rattle.gm_base.specs.Ascii.{is_blank}
+use Rattle.gm_wkt.specs.Grammar.{AreBlanks}
 use Rattle.gm_wkt.specs.Reader.{skip_blanks, Stops, Ends, Starts, begins_blank}
 
 pub run : (test : ℕ → Bool) (bs rest : List ℕ) → list_all test bs ≡ true → Stops test rest

@@ -3,7 +3,7 @@ use Rattle.std.specs.Prelude.{◌≡◌, ◌<◌, ◌⊎◌, ◌==◌, ◌||◌,
 use Rattle.std.specs.Prelude.{length, map, codes, Option, Some, None, Result, Ok, Err}
 use Rattle.std.specs.List.{list_all}
 use Rattle.std.specs.Char.{to_ascii_lowercase}
-use Rattle.gm_base.specs.Ascii.{space, tab, opening, closing, comma}
+use Rattle.gm_base.specs.Ascii.{opening, closing, comma, is_blank}
 use Rattle.gm_geom.specs.declared.point.Point.{Point}
 use Rattle.gm_geom.specs.declared.geometry.Geometry.{Geometry}
 use Rattle.gm_geom.specs.declared.geometry.Geometry.TheVariants as geo
@@ -12,10 +12,6 @@ use Rattle.gm_geom.specs.declared.number.NumberFault.TheVariants.{Form, Big}
 use Rattle.gm_wkt.specs.declared.keyword.Keyword.{Keyword}
 use Rattle.gm_wkt.specs.declared.keyword.Keyword.TheVariants as keyword
 use Rattle.gm_geom.specs.Number.{fixed_of, is_number_byte}
-
--- space and tab
-abbrev pub is_blank : ℕ → Bool
-is_blank b = b == space || b == tab
 
 abbrev pub AreBlanks : List ℕ → Type 0
 AreBlanks bytes = list_all is_blank bytes ≡ true

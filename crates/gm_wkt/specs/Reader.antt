@@ -5,8 +5,8 @@ use Rattle.std.specs.Prelude.{option_and_then}
 use Rattle.std.specs.List.{prefix_len}
 use Rattle.gm_geom.specs.declared.point.Point.{Point}
 use Rattle.gm_geom.specs.Number.{is_number_byte}
-use Rattle.gm_wkt.specs.Grammar.{is_blank, coordinate_of, SpellsPosition}
-use Rattle.gm_base.specs.Ascii.{comma, opening, closing}
+use Rattle.gm_wkt.specs.Grammar.{coordinate_of, SpellsPosition}
+use Rattle.gm_base.specs.Ascii.{comma, opening, closing, is_blank}
 use Rattle.gm_wkt.specs.Grammar.{SpellsLoose, SpellsMember}
 use Rattle.gm_wkt.specs.declared.halt.Halt.{Halt}
 use Rattle.gm_wkt.specs.declared.halt.Halt.TheVariants.{Syntax, NoMemory}

@@ -6,7 +6,8 @@ use Rattle.std.proofs.lemmas.Bool.{and_parts}
 use Rattle.std.proofs.lemmas.Bool.Decides.{nat_tests}
 use Rattle.gm_geom.specs.declared.point.Point.{Point}
 use Rattle.gm_geom.specs.Number.{is_number_byte}
-use Rattle.gm_wkt.specs.Grammar.{is_blank, coordinate_of, SpellsNumber, SpellsPosition, SpellsList}
+use Rattle.gm_base.specs.Ascii.{is_blank}
+use Rattle.gm_wkt.specs.Grammar.{coordinate_of, SpellsNumber, SpellsPosition, SpellsList}
 use Rattle.gm_wkt.specs.Reader.{SpellsPoint, Starts}
 
 number_is_no_blank : (b : ℕ) → is_number_byte b ≡ true → is_blank b ≡ false

@@ -2,13 +2,14 @@
 ghost use Rattle.std.specs.Prelude.{◌≡◌, ◌≤◌, ◌<◌, [], ◌∷◌, length, option_map, MatchOption};
 ghost use Rattle.std.specs.List.{prefix_len};
 ghost use Rattle.gm_geom.specs.Number as number;
+ghost use Rattle.gm_base.specs.Ascii as ascii;
 ghost use Rattle.gm_wkt.specs.Grammar as grammar;
 ghost use Rattle.gm_wkt.specs.Reader as spec;
 
 use gm_geom::{NumberFault, Point, read_fixed};
 
 fn is_blank(byte: u8) -> bool
-    ensures { result ≡ grammar.is_blank byte }
+    ensures { result ≡ ascii.is_blank byte }
 {
     byte == b' ' || byte == b'\t'
 }
@@ -30,7 +31,7 @@ pub fn skip_blanks(bytes: &[u8]) -> &[u8]
 }
 
 fn blank_count(bytes: &[u8]) -> usize
-    ensures value { result ≡ prefix_len grammar.is_blank bytes.now }
+    ensures value { result ≡ prefix_len ascii.is_blank bytes.now }
     ensures within { result ≤ length bytes.now }
 {
     'bytes: for (count, byte) in bytes.iter().enumerate() {

@@ -1,6 +1,6 @@
 use Rattle.std.proofs.Common.{◌≡◌, ◌+◌, drop}
 use Rattle.std.specs.List.{prefix_len}
-use Rattle.gm_ecql.specs.Token.{is_blank}
+use Rattle.gm_base.specs.Ascii.{is_blank}
 use Rattle.gm_ecql.proofs.bytes.blank_count.Given as goal
 
 abbrev pub invariant-bytes : goal.invariant-bytes
