@@ -1,5 +1,5 @@
 // Identifiers of features.
-ghost use Rattle.std.specs.Prelude.{◌≡◌, true, false, IfOk, MatchResult};
+ghost use Rattle.std.specs.Prelude.{◌≡◌, true, IfOk, MatchResult};
 ghost use Rattle.gm_base.specs.Identifier.{is_identifier, has_identifier_form, is_printable, Fault};
 ghost use Rattle.std.specs.List.{list_all};
 

@@ -1,6 +1,6 @@
 // Blocks.
-ghost use Rattle.std.specs.Prelude.{◌≡◌, ◌≤◌, ℕ, List, ◌++◌, ◌↔◌, IfOk};
-ghost use Rattle.std.specs.Prelude.{IsTrue, MatchOption, length, codes};
+ghost use Rattle.std.specs.Prelude.{◌≡◌, ◌≤◌, List, ◌++◌, ◌↔◌, IfOk};
+ghost use Rattle.std.specs.Prelude.{IsTrue, MatchOption, codes};
 ghost use Rattle.std.specs.Int.{to_be_bytes, w32};
 ghost use Rattle.gm_block.specs.Block.{IsBlock, IsAbove, AreRows, block_bytes};
 ghost use Rattle.gm_table.specs.Blocks.{most_rows};

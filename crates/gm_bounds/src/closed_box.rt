@@ -1,5 +1,4 @@
 // Boxes as members of a bound.
-ghost use Rattle.std.specs.Prelude.{◌≡◌};
 ghost use Rattle.gm_bounds.specs.ClosedBox as spec;
 
 use crate::member::Member;

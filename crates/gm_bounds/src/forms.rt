@@ -1,6 +1,6 @@
 // The lexicoded forms of literals.
 ghost use Rattle.std.specs.Prelude.{◌≡◌, IfOk, Some};
-ghost use Rattle.gm_lexi.specs.Lexicode.{int_bytes, long_bytes, bool_bytes, date_bytes};
+ghost use Rattle.gm_lexi.specs.Lexicode.{long_bytes, bool_bytes, date_bytes};
 ghost use Rattle.gm_bounds.specs.Values as spec;
 
 use gm_base::{Bytes, NoMemory, Text};

@@ -1,6 +1,5 @@
 // Lists of boxes, intervals or ranges, and what AND and OR make of them.
-ghost use Rattle.std.specs.Prelude.{◌≡◌, ◌++◌, [], ◌∷◌, IfOk, OnOk, fold};
-ghost use Rattle.std.specs.Prelude.{option_to_list, if◌then◌else◌};
+ghost use Rattle.std.specs.Prelude.{◌≡◌, ◌++◌, [], ◌∷◌, IfOk, OnOk};
 ghost use Rattle.gm_bounds.specs.Lists as spec;
 
 use crate::Bound;

@@ -1,8 +1,6 @@
 // The byte ranges of a filter.
 ghost use Rattle.std.specs.Prelude.{◌≡◌, ◌++◌, ◌+ℤ◌, pos, IfOk, OnOk, Some, None, map};
-ghost use Rattle.gm_lexi.specs.Ends.{after_of};
 ghost use Rattle.gm_lexi.specs.Lexicode.{date_bytes};
-ghost use Rattle.gm_types.specs.Index.{is_indexed_one};
 ghost use Rattle.gm_types.specs.Specification.{kind_at};
 ghost use Rattle.gm_filter.specs.Like as like;
 ghost use Rattle.gm_filter.specs.Suitability.{Suits};

@@ -1,5 +1,5 @@
 // The place of a millisecond among the bins of a period.
-ghost use Rattle.std.specs.Prelude.{◌≡◌, ◌≤◌};
+ghost use Rattle.std.specs.Prelude.{◌≤◌};
 ghost use Rattle.gm_calendar.specs.BinPlace.{IsBinPlace};
 ghost use Rattle.gm_calendar.specs.declared.period.Period.TheVariants.{Day, Week, Month, Year};
 

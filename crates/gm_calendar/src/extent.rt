@@ -1,6 +1,5 @@
 // The extent of a bin: its first day and how many it has.
-ghost use Rattle.std.specs.Prelude.{◌≡◌, ◌≤◌};
-ghost use Rattle.gm_calendar.specs.Bin.{bin_start, days_of_bin};
+ghost use Rattle.std.specs.Prelude.{◌≤◌};
 ghost use Rattle.gm_calendar.specs.Extent.{IsExtent};
 ghost use Rattle.gm_calendar.specs.Period.{last_of};
 ghost use Rattle.gm_calendar.specs.declared.period.Period.TheVariants.{Day, Week, Month, Year};

@@ -1,6 +1,6 @@
 // Spreading the bits of a number at even distances, and gathering them: by shifts and masks that
 // halve or double the blocks of bits that stand together.
-ghost use Rattle.std.specs.Prelude.{◌≡◌, ◌≤◌, ◌<◌, ◌*◌, ◌^◌, ◌⊎◌};
+ghost use Rattle.std.specs.Prelude.{◌≡◌, ◌<◌, ◌^◌, ◌⊎◌};
 ghost use Rattle.gm_curve.specs.Spreading.{spread_of, gather_of};
 
 // Bit j goes to place 2*j.

@@ -1,6 +1,6 @@
 // Tokens to a test.
 ghost use Rattle.std.specs.Prelude.{◌≡◌, ◌<◌, length, map, option_map, IfOk};
-ghost use Rattle.gm_ecql.specs.Token.{seen, seen_all, undoubled};
+ghost use Rattle.gm_ecql.specs.Token.{seen_all, undoubled};
 ghost use Rattle.gm_ecql.specs.Test.{asked_seen, constant_seen, corners_seen, test_seen};
 ghost use Rattle.gm_ecql.specs.Reader as spec;
 ghost use Rattle.gm_ecql.specs.Halt.{Gives};

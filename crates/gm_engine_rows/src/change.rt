@@ -1,13 +1,10 @@
 // The change of rows where a feature comes, goes or takes the place of another.
-ghost use Rattle.std.specs.Prelude.{◌≡◌, ◌++◌, [], ◌∷◌, List, ℕ, not, filter};
-ghost use Rattle.std.specs.Prelude.{map, Some, None, IsTrue, IfOk, OnOk};
+ghost use Rattle.std.specs.Prelude.{◌≡◌, ◌++◌, not, filter};
+ghost use Rattle.std.specs.Prelude.{map, Some, None, IsTrue, IfOk};
 ghost use Rattle.std.specs.Option.{option_copied, ForSome};
 ghost use Rattle.gm_table.specs.Batch.{are_distinct, has_key as is_among};
 ghost use Rattle.gm_table.specs.Row.{key_of as key_of_row};
-ghost use Rattle.gm_table.specs.declared.row.Row.{Row as AnyRow};
 ghost use Rattle.gm_feature.specs.Feature.{Fits};
-ghost use Rattle.gm_feature.specs.Writer.{feature_bytes};
-ghost use Rattle.gm_keys.specs.Key.{keys_of as all_keys_of};
 ghost use Rattle.gm_engine_rows.specs.Change.{keys_at as all_keys_at, removes_of};
 ghost use Rattle.gm_engine_rows.specs.Change.{puts_of, rows_with};
 

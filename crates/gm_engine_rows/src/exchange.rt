@@ -1,5 +1,5 @@
 // The change of rows where several features of a type go or give their place to others.
-ghost use Rattle.std.specs.Prelude.{◌≡◌, ◌++◌, All, List, true, map, IfOk};
+ghost use Rattle.std.specs.Prelude.{◌≡◌, ◌++◌, All, true, map, IfOk};
 ghost use Rattle.gm_table.specs.Batch.{are_distinct};
 ghost use Rattle.gm_table.specs.Row.{key_of as key_of_row};
 ghost use Rattle.gm_engine_rows.specs.Exchange.{IsExchange, owners_of, removes_of_all, puts_of_all};

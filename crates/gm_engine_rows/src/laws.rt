@@ -1,11 +1,9 @@
 // Laws of the rows of a state, for proofs. Each is the contract of a function that does nothing but
 // call those that it rests on.
-ghost use Rattle.std.specs.Prelude.{All, ◌≡◌, ◌+◌, ◌++◌, ℕ, List, Option, Some};
-ghost use Rattle.std.specs.Prelude.{None, true, map, length, slice_get, IsTrue};
+ghost use Rattle.std.specs.Prelude.{All, ◌≡◌, ◌+◌, ℕ, List, Option, Some};
+ghost use Rattle.std.specs.Prelude.{true, map, length};
 ghost use Rattle.std.specs.Option.{ForSome};
-ghost use Rattle.gm_table.specs.declared.row.Row.{Row};
 ghost use Rattle.gm_table.specs.Batch.{are_distinct, applied_at};
-ghost use Rattle.gm_table.specs.Row.{key_of as key_of_row};
 ghost use Rattle.gm_table.specs.Sorted.{IsRising, at_key};
 ghost use Rattle.gm_types.specs.FeatureType.{IsType};
 ghost use Rattle.gm_types.specs.Specification.{Specification};

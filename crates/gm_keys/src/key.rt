@@ -1,6 +1,6 @@
 // The keys of a feature.
-ghost use Rattle.std.specs.Prelude.{◌≡◌, ◌≤◌, ◌<◌, ◌^◌, ◌++◌, ◌∷◌, [], true, length};
-ghost use Rattle.std.specs.Prelude.{is_some, is_none, unwrap_or, IsTrue, IfOk, OnOk};
+ghost use Rattle.std.specs.Prelude.{◌≡◌, ◌≤◌, ◌<◌, ◌^◌, ◌++◌, true, length};
+ghost use Rattle.std.specs.Prelude.{is_none, IsTrue, IfOk, OnOk};
 ghost use Rattle.byteorder.specs.Endian.{big_bytes};
 ghost use Rattle.std.specs.List.{flat_map};
 ghost use Rattle.gm_types.specs.Index.{has_index, attribute_indexes};

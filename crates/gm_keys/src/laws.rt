@@ -12,7 +12,7 @@ ghost use Rattle.gm_types.specs.Specification.{Specification, shards_of};
 ghost use Rattle.gm_feature.specs.declared.feature.Feature.{Feature};
 ghost use Rattle.gm_feature.specs.Feature.{Fits};
 ghost use Rattle.gm_keys.specs.Key.{prefix_of, shard_of, code_front, bin_front};
-ghost use Rattle.gm_keys.specs.Key.{bin_code_front, key_of, id_key};
+ghost use Rattle.gm_keys.specs.Key.{bin_code_front, key_of};
 ghost use Rattle.gm_keys.specs.Layout.{IsLaidOut};
 ghost use Rattle.gm_keys.specs.Whereabouts.{lacks_value};
 

@@ -1,5 +1,5 @@
 // The end of the strings that begin with given bytes.
-ghost use Rattle.std.specs.Prelude.{◌≡◌, ◌<◌, ◌≤◌, ◌+◌, ◌-◌, ◌≢◌, [], length, slice_index, ◌∷◌};
+ghost use Rattle.std.specs.Prelude.{◌≡◌, ◌<◌, ◌+◌, ◌-◌, ◌≢◌, [], length, slice_index, ◌∷◌};
 ghost use Rattle.std.specs.Prelude.{◌++◌, ℕ, List, All, Some, None, nat_eq, take, replicate, IfOk};
 ghost use Rattle.std.specs.List.{starts_with};
 ghost use Rattle.std.specs.Ordering.{nat_cmp, is_le};

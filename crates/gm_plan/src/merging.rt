@@ -1,8 +1,8 @@
 // Byte ranges in order, those that overlap or touch made one.
-ghost use Rattle.std.specs.Prelude.{◌≡◌, ◌++◌, ◌∷◌, [], List, IfOk, OnOk, map};
+ghost use Rattle.std.specs.Prelude.{◌≡◌, ◌++◌, ◌∷◌, [], List, IfOk};
 ghost use Rattle.gm_bounds.specs.ByteRange as range;
 ghost use Rattle.gm_bounds.specs.declared.byte_range.ByteRange.{ByteRange};
-ghost use Rattle.gm_plan.specs.KeyRanges.{value_range, value_ranges};
+ghost use Rattle.gm_plan.specs.KeyRanges.{value_ranges};
 ghost use Rattle.gm_plan.specs.Merging as spec;
 
 use gm_base::{Bytes, Items, NoMemory};

@@ -1,7 +1,6 @@
 // Boxes as windows of cells.
 ghost use Rattle.std.specs.Prelude.{◌≡◌, ◌≤◌, ◌*◌, ◌++◌, ◌+ℤ◌, ◌≤ℤ◌, pos};
 ghost use Rattle.std.specs.Prelude.{IfOk, OnOk, map, filter, min, true};
-ghost use Rattle.std.specs.List.{flat_map};
 ghost use Rattle.gm_keys.specs.Cell as cell;
 ghost use Rattle.gm_calendar.specs.Period.{last_of, longest_of};
 ghost use Rattle.gm_plan.specs.Bins.{meets_bin};

@@ -1,6 +1,6 @@
 // What words ask for, and what is written for a made script. Each law is the contract of a function
 // that does nothing.
-ghost use Rattle.std.specs.Prelude.{◌≡◌, ◌++◌, ◌∷◌, [], ℕ, Some, None, codes};
+ghost use Rattle.std.specs.Prelude.{◌≡◌, ◌++◌, ◌∷◌, [], Some, None, codes};
 ghost use Rattle.gm_engine_rows.specs.State.{State};
 ghost use Rattle.gm_program.specs.Generator.{generated_script, loading};
 ghost use Rattle.gm_program.specs.Lines.{lines_of};

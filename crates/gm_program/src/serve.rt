@@ -1,7 +1,6 @@
 // Lines served one after the other.
 ghost use Rattle.std.specs.Prelude.{◌≡◌, ◌≤◌, ◌++◌, [], ◌∷◌, ℕ, List, Some, None};
 ghost use Rattle.std.specs.Prelude.{OnOk, OnErr, IfOk, IsErrOf, length};
-ghost use Rattle.std.specs.Option.{ForSome};
 ghost use Rattle.gm_outside.specs.Failed.{Rose};
 ghost use Rattle.gm_program.specs.Machine.{Machine, line_turn, end_turn, said, replies, outcome_of};
 ghost use Rattle.gm_engine_rows.specs.State.{State};

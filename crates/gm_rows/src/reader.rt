@@ -1,5 +1,5 @@
 // Rows read.
-ghost use Rattle.std.specs.Prelude.{◌≡◌, ◌∷◌, drop, map, true, Some, Ok, IfOk};
+ghost use Rattle.std.specs.Prelude.{◌≡◌, ◌∷◌, map, true, Some, Ok, IfOk};
 ghost use Rattle.gm_feature.specs.Feature.{Fits};
 ghost use Rattle.gm_rows.specs.Reader as spec;
 ghost use Rattle.gm_rows.specs.Reader.{Answers};

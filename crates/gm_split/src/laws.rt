@@ -1,5 +1,5 @@
 // What the decomposition's definitions give.
-ghost use Rattle.std.specs.Prelude.{◌≡◌, ◌<◌, ◌≤◌, ◌⊎◌, ◌↔◌, ◌+◌, ℕ, List};
+ghost use Rattle.std.specs.Prelude.{◌≡◌, ◌<◌, ◌≤◌, ◌↔◌, ◌+◌, ℕ, List};
 ghost use Rattle.std.specs.Prelude.{[], true, length, slice_index_or, Any};
 ghost use Rattle.gm_curve.specs.Curve.{z_code};
 ghost use Rattle.gm_curve.specs.Xz.{xz_code};
@@ -10,7 +10,7 @@ ghost use Rattle.gm_trees.specs.Tree.{HasCode, walk};
 ghost use Rattle.gm_trees.specs.Paths.{AreCoordinates, cell_of};
 ghost use Rattle.gm_trees.specs.Z.{z_shape, IsZSize};
 ghost use Rattle.gm_trees.specs.Xz.{xz_shape, IsXzSize};
-ghost use Rattle.gm_split.specs.Levels.{InLevelSet, IsStem, IsNodeOfCode, IsOneStem, IsStop};
+ghost use Rattle.gm_split.specs.Levels.{InLevelSet, IsNodeOfCode, IsOneStem, IsStop};
 ghost use Rattle.gm_split.specs.Explained.{explained_runs, level_runs, stop_level};
 ghost use Rattle.gm_split.specs.Windows.{meets, overlaps};
 

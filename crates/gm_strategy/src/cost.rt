@@ -3,7 +3,7 @@ ghost use Rattle.std.specs.Prelude.{◌≡◌, IfOk, Some, None, slice_get, if�
 ghost use Rattle.gm_filter.specs.Suitability.{Suits};
 ghost use Rattle.gm_filter.specs.Tree.{tree};
 ghost use Rattle.gm_types.specs.declared.index.IndexKind.TheVariants.{Id, Attr};
-ghost use Rattle.gm_bounds.specs.Applicability.{does_apply, can_serve};
+ghost use Rattle.gm_bounds.specs.Applicability.{does_apply};
 ghost use Rattle.gm_strategy.specs.Cost as spec;
 
 use gm_base::NoMemory;

@@ -1,5 +1,5 @@
 // User data, read from a specification.
-ghost use Rattle.std.specs.Prelude.{◌≡◌, Some};
+ghost use Rattle.std.specs.Prelude.{Some};
 ghost use Rattle.gm_types.specs.Halt.{Reads, Adds};
 ghost use Rattle.gm_types.specs.Reader as spec;
 

@@ -1,10 +1,7 @@
 // Lists of texts in which none stands twice. They are compared in a sorted set.
-ghost use Rattle.std.specs.Prelude.{◌≡◌, ◌||◌, not, map, ℕ, List, IfOk};
-ghost use Rattle.std.specs.BTreeSet.{contains};
-ghost use Rattle.std.specs.Cmp.Lexicographic.{slice_cmp};
-ghost use Rattle.std.specs.Ordering.{nat_cmp};
-ghost use Rattle.gm_types.specs.Distinct.{has_text, Notes};
-ghost use Rattle.gm_types.specs.Words.{are_distinct, same_text};
+ghost use Rattle.std.specs.Prelude.{◌≡◌, map, ℕ, List, IfOk};
+ghost use Rattle.gm_types.specs.Distinct.{Notes};
+ghost use Rattle.gm_types.specs.Words.{are_distinct};
 
 use crate::{Attribute, AttributeOption, Datum};
 use gm_base::{Bytes, NoMemory};

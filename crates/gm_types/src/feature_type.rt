@@ -1,5 +1,5 @@
 // Feature types: specifications with what follows from them at hand.
-ghost use Rattle.std.specs.Prelude.{◌≡◌, ◌<◌, ◌≤◌, slice_get, IsTrue, true, IfOk, IfNone, IfSome};
+ghost use Rattle.std.specs.Prelude.{◌≡◌, ◌≤◌, slice_get, IsTrue, true, IfOk, IfNone, IfSome};
 ghost use Rattle.gm_types.specs.declared.index.IndexKind.{IndexKind};
 ghost use Rattle.gm_types.specs.Facts.{AreFactsOf};
 ghost use Rattle.gm_types.specs.FeatureType.{IsType, IsGeometryAt, IsDateAt};

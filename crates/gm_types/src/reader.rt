@@ -1,6 +1,6 @@
 // Specifications, read.
-ghost use Rattle.std.specs.Prelude.{◌≡◌, ◌&&◌, ◌<◌, ◌≤◌, true, position, count_by};
-ghost use Rattle.std.specs.Prelude.{map, slice_get, option_map, Some, IfOk};
+ghost use Rattle.std.specs.Prelude.{◌≡◌, ◌&&◌, true, position, count_by};
+ghost use Rattle.std.specs.Prelude.{Some, IfOk};
 ghost use Rattle.gm_types.specs.Answer.{OutlineReads};
 ghost use Rattle.gm_types.specs.Datum.{datum_keys};
 ghost use Rattle.gm_types.specs.Facts.{AreFactsOf};

@@ -1,8 +1,7 @@
 // The six keywords.
-ghost use Rattle.std.specs.Prelude.{◌≡◌, ◌≤◌, ◌==◌, map, length, take, drop};
+ghost use Rattle.std.specs.Prelude.{◌≡◌, ◌≤◌, map, length, take, drop};
 ghost use Rattle.std.specs.Char.{to_ascii_lowercase};
 ghost use Rattle.std.specs.Cmp.Lexicographic.{pointwise};
-ghost use Rattle.gm_wkt.specs.Grammar as grammar;
 ghost use Rattle.gm_wkt.specs.Words as spec;
 
 /// What a text begins with.

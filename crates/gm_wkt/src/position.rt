@@ -1,5 +1,5 @@
 // Blanks, numbers and positions, which take no memory.
-ghost use Rattle.std.specs.Prelude.{◌≡◌, ◌≤◌, ◌<◌, [], ◌∷◌, length, option_map, MatchOption};
+ghost use Rattle.std.specs.Prelude.{◌≡◌, ◌≤◌, [], length, option_map, MatchOption};
 ghost use Rattle.std.specs.List.{prefix_len};
 ghost use Rattle.gm_geom.specs.Number as number;
 ghost use Rattle.gm_base.specs.Ascii as ascii;

@@ -1,12 +1,12 @@
 // Geometries to texts.
-ghost use Rattle.std.specs.Prelude.{◌≡◌, ◌++◌, ◌∷◌, List, ℕ, None, IfOk, OnOk, codes};
+ghost use Rattle.std.specs.Prelude.{◌≡◌, ◌++◌, List, ℕ, None, IfOk, OnOk};
 ghost use Rattle.std.specs.String.{string_bytes};
 ghost use Rattle.gm_geom.specs.declared.geometry.Geometry.TheVariants as geo;
 ghost use Rattle.gm_geom.specs.Validity.{fault_of};
 ghost use Rattle.gm_wkt.specs.Grammar as grammar;
 ghost use Rattle.gm_wkt.specs.Grammar.{SpellsText};
 ghost use Rattle.gm_wkt.specs.Printer as spec;
-ghost use Rattle.gm_wkt.specs.Printer.{position_text, lone_text, line_text};
+ghost use Rattle.gm_wkt.specs.Printer.{position_text, lone_text};
 ghost use Rattle.gm_wkt.specs.Printer.{list_text, printed, body_text};
 
 use crate::keyword::Keyword;

@@ -1,5 +1,5 @@
 // Texts to geometries.
-ghost use Rattle.std.specs.Prelude.{◌≡◌, IfOk, MatchResult, Bool};
+ghost use Rattle.std.specs.Prelude.{◌≡◌, IfOk, MatchResult};
 ghost use Rattle.gm_geom.specs.declared.geometry.Geometry.{Geometry};
 ghost use Rattle.gm_wkt.specs.Answer.{IsAnswer, IsReadAs, IsUnlessMemory, answer_of};
 ghost use Rattle.gm_wkt.specs.Grammar as grammar;

@@ -1,5 +1,5 @@
 // `create`
-ghost use Rattle.std.specs.Prelude.{◌≡◌, ◌<◌, ◌^◌, ℕ, IfOk};
+ghost use Rattle.std.specs.Prelude.{◌<◌, ◌^◌, ℕ, IfOk};
 ghost use Rattle.gm_engine_rows.specs.State.{State};
 ghost use Rattle.gm_script.specs.Order as order;
 ghost use Rattle.gm_script.specs.Suits.{Suits};

@@ -1,5 +1,5 @@
 // `delete`
-ghost use Rattle.std.specs.Prelude.{◌≡◌, ◌<◌, length, Some, IfOk};
+ghost use Rattle.std.specs.Prelude.{◌≡◌, Some, IfOk};
 ghost use Rattle.gm_engine_rows.specs.State.{State, type_at};
 ghost use Rattle.gm_script.specs.Order as order;
 ghost use Rattle.gm_script.specs.Suits.{Suits};

@@ -1,5 +1,5 @@
 // `describe`
-ghost use Rattle.std.specs.Prelude.{◌≡◌, ◌<◌, ◌^◌, ℕ, length, IfOk};
+ghost use Rattle.std.specs.Prelude.{◌<◌, ◌^◌, ℕ, length, IfOk};
 ghost use Rattle.gm_engine_rows.specs.State.{State};
 ghost use Rattle.gm_table.specs.Sorted.{Rows};
 ghost use Rattle.gm_program.specs.Serve.{Executes};

@@ -1,5 +1,5 @@
 // `explain`
-ghost use Rattle.std.specs.Prelude.{◌≡◌, ◌≤◌, ◌<◌, ◌^◌, ◌+◌, ◌++◌, ℕ, All, map, length, IfOk, OnOk};
+ghost use Rattle.std.specs.Prelude.{◌≡◌, ◌≤◌, ◌<◌, ◌^◌, ◌++◌, ℕ, All, map, length, IfOk, OnOk};
 ghost use Rattle.gm_engine_rows.specs.State.{State};
 ghost use Rattle.gm_script.specs.Order.{asked_by};
 ghost use Rattle.gm_script.specs.Suits.{IsQuestion};

@@ -1,12 +1,10 @@
 // `modify`
-ghost use Rattle.std.specs.Prelude.{◌≡◌, ◌<◌, ◌+◌, All, length, map, nat_le, Some, None, IfOk};
+ghost use Rattle.std.specs.Prelude.{◌≡◌, ◌+◌, All, length, map, nat_le, Some, None, IfOk};
 ghost use Rattle.gm_engine_rows.specs.Exchange.{IsExchange, old_keys};
 ghost use Rattle.gm_engine_rows.specs.State.{State, type_at};
-ghost use Rattle.gm_ecql.specs.Outcome.{MayHold};
 ghost use Rattle.gm_feature.specs.Feature.{Fits};
 ghost use Rattle.gm_filter.specs.Suitability.{Suits as SuitsType};
 ghost use Rattle.gm_filter.specs.Tree.{tree};
-ghost use Rattle.gm_script.specs.Bins.{keeps_bins};
 ghost use Rattle.gm_script.specs.Order as order;
 ghost use Rattle.gm_script.specs.Order.{asked_by};
 ghost use Rattle.gm_script.specs.Suits.{Suits};

@@ -1,5 +1,5 @@
 // `put`
-ghost use Rattle.std.specs.Prelude.{◌≡◌, ◌≤◌, ◌<◌, ◌+◌, ◌-◌, length, Some, Option, nat_le, IfOk};
+ghost use Rattle.std.specs.Prelude.{◌≡◌, ◌+◌, ◌-◌, length, Some, Option, nat_le, IfOk};
 ghost use Rattle.std.specs.Option.{ForSome, option_copied};
 ghost use Rattle.gm_engine_rows.specs.Change.{keys_at};
 ghost use Rattle.gm_engine_rows.specs.State.{State, type_at};

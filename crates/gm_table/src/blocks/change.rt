@@ -1,10 +1,9 @@
 // Blocks with one row more, with one row fewer, and with other bytes in a row.
-ghost use Rattle.std.specs.Prelude.{◌≡◌, ◌≤◌, ◌<◌, ◌+◌, ℕ, List, [], ◌∷◌, ◌++◌, length, take, drop};
+ghost use Rattle.std.specs.Prelude.{◌≡◌, ◌≤◌, ◌<◌, ◌+◌, ℕ, List, [], ◌∷◌, ◌++◌, length};
 ghost use Rattle.std.specs.Prelude.{OnOk, OnErr, IfOk, slice_index_or, suc, true, false};
 ghost use Rattle.std.specs.List.{AllByRecursion};
 ghost use Rattle.gm_table.specs.Blocks.{HasRoom, IsBlock, IsCut, IsPlace, IsRowAt, lists_of};
 ghost use Rattle.gm_table.specs.Blocks.{pair_of, rows_at, rows_of, rows_until};
-ghost use Rattle.gm_table.specs.Sorted.{Rows};
 ghost use Rattle.gm_table.specs.declared.blocks.block.Block.{Block};
 
 use crate::Row;

@@ -1,5 +1,5 @@
 // Spans of keys handed out from blocks, each from where the last one ended.
-ghost use Rattle.std.specs.Prelude.{◌≡◌, ◌≤◌, ◌<◌, [], ◌∷◌, ℕ, All, slice_range, OnOk, IfOk};
+ghost use Rattle.std.specs.Prelude.{◌≡◌, ◌≤◌, ◌<◌, [], ◌∷◌, ℕ, All, slice_range, OnOk};
 ghost use Rattle.std.specs.Prelude.{IfErr, IfSome, MatchOption, length, drop, true};
 ghost use Rattle.std.specs.List.{AllByRecursion};
 ghost use Rattle.std.specs.Ordering.{nat_cmp, is_le};

@@ -1,9 +1,8 @@
 // Rows of blocks, handed out in order.
 ghost use Rattle.std.specs.Prelude.{◌≡◌, ◌≤◌, ◌<◌, ℕ, All, OnOk, IfOk, IfErr, length, take, drop};
-ghost use Rattle.std.specs.List.{AllByRecursion};
 ghost use Rattle.gm_base.specs.Counter.{capped_sum};
 ghost use Rattle.gm_base.specs.Tally.{tally_number};
-ghost use Rattle.gm_table.specs.Blocks.{IsBlock, IsPlace, lists_of, pairs_of, rows_of, rows_at};
+ghost use Rattle.gm_table.specs.Blocks.{IsPlace, lists_of, pairs_of, rows_of, rows_at};
 ghost use Rattle.gm_table.specs.Cursor.{rows_below, rows_after};
 ghost use Rattle.gm_table.specs.Sorted.{IsRising};
 ghost use Rattle.gm_table.specs.Visit.{Handed, Stops};
