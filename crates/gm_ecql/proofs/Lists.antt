@@ -9,9 +9,8 @@ use Rattle.gm_base.proofs.Lists.{take_drop, run_passes}
 use Rattle.gm_base.proofs.Options.{same_pair}
 use Rattle.gm_ecql.specs.Token.{Seen, a_keyword, a_name, a_text, an_instant, a_number, a_symbol}
 use Rattle.gm_base.specs.Ascii.{is_blank}
-use Rattle.gm_ecql.specs.Token.{is_word_start, is_number_start}
-use Rattle.gm_ecql.specs.Token.{is_some_list, Stops, Starts, symbol_text, IsPiece, IsFirst}
-use Rattle.gm_ecql.specs.Token.{IsUnspaced, Spells, SpellsTokens}
+use Rattle.gm_ecql.specs.Token.{is_word_start, is_number_start, is_some_list, Stops, Starts}
+use Rattle.gm_ecql.specs.Token.{symbol_text, IsPiece, IsFirst, IsUnspaced, Spells, SpellsTokens}
 use Rattle.gm_calendar.specs.Spelling.{has_date_form}
 use Rattle.gm_ecql.specs.declared.token.Symbol.{Symbol}
 use Rattle.gm_ecql.specs.declared.token.Symbol.TheVariants as symbol

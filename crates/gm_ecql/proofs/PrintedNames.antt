@@ -1,15 +1,13 @@
 -- The printed name of an attribute is a piece of its name, and the name leads back to the
 -- attribute.
-use Rattle.std.proofs.Common.{◌≡◌, ℕ, zero, suc, ◌+◌, true, false, not, ◌&&◌}
-use Rattle.std.proofs.Common.{cond, List, [], ◌∷◌, length, map, Some, None, option_map}
-use Rattle.std.proofs.Common.{refl, sym, ◌∙◌, ap, subst, arith}
+use Rattle.std.proofs.Common.{◌≡◌, ℕ, zero, suc, ◌+◌, true, false, not, ◌&&◌, cond, List, [], ◌∷◌}
+use Rattle.std.proofs.Common.{length, map, Some, None, option_map, refl, sym, ◌∙◌, ap, subst, arith}
 use Rattle.std.specs.Prelude.{slice_get, nat_lt}
 use Rattle.std.specs.List.{list_all, list_any, prefix_len}
 use Rattle.std.proofs.lemmas.Bool.{lt-ltb, or_parts, and_parts}
 use Rattle.std.proofs.lemmas.Option.{slice_get-map, slice_get_within}
 use Rattle.std.proofs.lemmas.Str.{IsUtf8-from_ascii}
-use Rattle.gm_base.proofs.Options.{same_some}
-use Rattle.gm_base.proofs.Options.{no_some}
+use Rattle.gm_base.proofs.Options.{same_some, no_some}
 use Rattle.gm_base.proofs.Booleans.{false_of_not}
 use Rattle.gm_base.proofs.Numbers.{eq_true}
 use Rattle.gm_types.specs.declared.attribute.Attribute.{Attribute}

@@ -7,8 +7,7 @@ use Rattle.std.specs.List.{list_all}
 use Rattle.std.specs.Str.{is_utf8}
 use Rattle.std.proofs.lemmas.Bool.{le-leb, and_parts}
 use Rattle.std.proofs.lemmas.List.Folds.{list_all-append}
-use Rattle.gm_base.proofs.Options.{same_some}
-use Rattle.gm_base.proofs.Options.{no_some}
+use Rattle.gm_base.proofs.Options.{same_some, no_some}
 use Rattle.gm_types.specs.Specification.{Specification, place_of_name, kind_at}
 use Rattle.gm_filter.specs.Suitability.{Suits, suits, all_suit}
 use Rattle.gm_filter.specs.Tree as tree

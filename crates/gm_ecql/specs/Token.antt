@@ -6,7 +6,7 @@ use Rattle.std.specs.List.{list_all}
 use Rattle.std.specs.Char.{is_ascii_digit, is_ascii_alphabetic, is_ascii_alphanumeric}
 use Rattle.gm_base.specs.Ascii.{closing, comma, decimal_point, double_quote, equals_sign, is_blank}
 use Rattle.gm_base.specs.Ascii.{greater_sign, less_sign, minus_sign, opening, plus_sign}
-use Rattle.gm_base.specs.Ascii.{single_quote, slash, space, tab, underscore}
+use Rattle.gm_base.specs.Ascii.{single_quote, slash, underscore}
 use Rattle.gm_geom.specs.Number.{number_of}
 use Rattle.gm_calendar.specs.Spelling.{instant_of, has_date_form, is_instant_byte}
 use Rattle.gm_ecql.specs.declared.keyword.Keyword.{Keyword}

@@ -22,6 +22,7 @@ use Rattle.gm_bounds.specs.declared.ranges.Range.{Range}
 use Rattle.gm_bounds.specs.declared.ranges.Range.TheVariants as range
 use Rattle.gm_plan.specs.Spans.{end_of, end_or_none, from_to, span_behind, spans_in}
 use Rattle.gm_plan.proofs.ApartSpans.{C, Excludes, rising, AreExclusive, exclusive_append}
+
 -- what is known of the order of bytes
 pub record ByteLaws : Type 0 where
   pub high : (high other : List ℕ) → All (λ byte. byte < 256) (take (length high) other)

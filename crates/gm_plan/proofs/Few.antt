@@ -26,6 +26,7 @@ use Rattle.gm_bounds.specs.Time.{intervals_of, intervals_at, interval_rules, int
 use Rattle.gm_bounds.specs.Time.{lasting, dated, compared, lying_between, instants_of}
 use Rattle.gm_bounds.specs.ClosedBox as box
 use Rattle.gm_bounds.specs.Interval as interval
+
 abbrev pub IsFew : {X : Type 0} → Bound X → Type 0
 IsFew World = Unit {0}
 IsFew (Listed xs) = length xs ≤ 8

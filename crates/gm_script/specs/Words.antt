@@ -1,6 +1,5 @@
 -- The words of a line: runs of bytes that are no blanks, with runs of blanks between them.
-use Rattle.std.specs.Prelude.{◌≡◌, ℕ, Bool, true, false, not, ◌&&◌, ◌||◌, ◌==◌, List, [], ◌∷◌, take}
-use Rattle.std.specs.Prelude.{drop}
+use Rattle.std.specs.Prelude.{◌≡◌, ℕ, Bool, true, false, not, ◌&&◌, List, [], ◌∷◌, take, drop}
 use Rattle.std.specs.List.{list_all, prefix_len}
 use Rattle.gm_base.specs.Ascii.{is_blank}
 

@@ -34,8 +34,7 @@ use Rattle.gm_types.specs.Spelling.{pair_text, options_text, attribute_text, sta
 use Rattle.gm_types.specs.Spelling.{WrittenAttribute, written_attribute, WrittenDatum}
 use Rattle.gm_types.specs.Spelling.{written_datum, data_part, has_blanks, may_be_written, Spells}
 use Rattle.gm_base.specs.Ascii.{is_blank}
-use Rattle.gm_types.specs.Words.{is_name, is_key, is_bare, is_quotable, same_text}
-use Rattle.gm_types.specs.Words.{are_distinct}
+use Rattle.gm_types.specs.Words.{is_name, is_key, is_bare, is_quotable, same_text, are_distinct}
 use Rattle.gm_types.proofs.Cuts.{some_none, PartsAt, parts_first, parts_some}
 use Rattle.gm_types.proofs.Noted.{same_list}
 use Rattle.gm_types.proofs.Outlined.{read_valid}

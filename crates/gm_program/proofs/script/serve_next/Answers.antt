@@ -32,14 +32,14 @@ returns-in_err-serve_piece-clause-breaks g c =
     let p = err_from_is_err_and c.from_residual.result c.from_residual.ensures.1 in
     let refusal = c.in_err-serve_piece.field-0.0 in
     rw p.1 (λ start is. record {
-  taken = take c.in-Ok.n c.read.new.into;
-  source = λ script told. let gives = c.in-Ok.ensures.bytes script told in
-      (gives.rest, gives.parts, gives.stays);
-  part = λ m kept. c.in_err-serve_piece.ensures.err start m is kept;
-  whole = λ fault. absurd (no_read refusal p.0 p.2 fault);
-  at_limit = λ limit. absurd (no_limit refusal p.0 p.2 limit);
-  below_limit = λ _. grind (arith, common_steps);
-})
+      taken = take c.in-Ok.n c.read.new.into;
+      source = λ script told. let gives = c.in-Ok.ensures.bytes script told in
+          (gives.rest, gives.parts, gives.stays);
+      part = λ m kept. c.in_err-serve_piece.ensures.err start m is kept;
+      whole = λ fault. absurd (no_read refusal p.0 p.2 fault);
+      at_limit = λ limit. absurd (no_limit refusal p.0 p.2 limit);
+      below_limit = λ _. grind (arith, common_steps);
+    })
 
 pub returns-clause-streams : goal.returns-clause-streams
 returns-clause-streams g c = λ start is. record {
