@@ -98,7 +98,8 @@ named s place k t is =
     ∙ ap (option_map (λ (a : Attribute). a.name)) m.1) in
     let passes = attribute_passes s.attributes place a t.valid.attributes m.1 in
     let bytes = name_bytes a.name
-    (and_parts (is_name a.name) _ (and_parts (is_described a.name a.kind a.options) _ passes).0).0 in
+    (and_parts (is_name a.name) _
+    (and_parts (is_described a.name a.kind a.options) _ passes).0).0 in
     record {
       kind = is;
       printed = subst (λ n. Printed (name_text n) (a_name n)) (sym name)

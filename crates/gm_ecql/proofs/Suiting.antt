@@ -40,7 +40,8 @@ are_utf8 ts = list_all has_utf8 ts
 
 pub joined_utf8 : (xs ys : List Seen) → are_utf8 (xs ++ ys) ≡ true
     → (are_utf8 xs ≡ true) × (are_utf8 ys ≡ true)
-joined_utf8 xs ys h = and_parts (are_utf8 xs) (are_utf8 ys) (sym (list_all-append has_utf8 xs ys) ∙ h)
+joined_utf8 xs ys h =
+    and_parts (are_utf8 xs) (are_utf8 ys) (sym (list_all-append has_utf8 xs ys) ∙ h)
 
 texts_utf8 : (texts : List (List ℕ)) → are_utf8 (by_commas a_text texts) ≡ true
     → list_all is_utf8 texts ≡ true

@@ -3,8 +3,8 @@ use Rattle.std.specs.Prelude.{ℕ, ◌+◌, ◌-◌, Bool, true, false, not, ◌
 use Rattle.std.specs.Prelude.{List, [], ◌∷◌, take, drop, ℤ, Option, Some, None}
 use Rattle.std.specs.List.{prefix_len}
 use Rattle.std.specs.Str.{is_utf8}
-use Rattle.gm_base.specs.Ascii.{capital_e, closing, comma, double_quote, equals_sign, greater_sign, is_blank}
-use Rattle.gm_base.specs.Ascii.{less_sign, opening, single_quote, slash, small_e}
+use Rattle.gm_base.specs.Ascii.{capital_e, closing, comma, double_quote, equals_sign, greater_sign}
+use Rattle.gm_base.specs.Ascii.{is_blank, less_sign, opening, single_quote, slash, small_e}
 use Rattle.gm_geom.specs.Number.{number_of}
 use Rattle.gm_calendar.specs.Spelling.{instant_of, has_date_form, is_instant_byte}
 use Rattle.gm_ecql.specs.declared.token.Symbol.{Symbol}

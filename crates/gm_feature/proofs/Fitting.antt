@@ -110,4 +110,5 @@ sound_at (k ∷ ks) (w ∷ values) zero v fit within is =
     let here = and_parts (value_fits k w) (values_fit ks values) fit in
     ap is_sound is ∙ (and_parts (is_of_kind k w) (is_sound w) here.0).1
 sound_at (k ∷ ks) (w ∷ values) (suc i) v fit within is =
-    sound_at ks values i v (and_parts (value_fits k w) (values_fit ks values) fit).1 (omega arith) is
+    sound_at ks values i v (and_parts (value_fits k w) (values_fit ks values) fit).1
+    (omega arith) is

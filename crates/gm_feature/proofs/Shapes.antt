@@ -318,5 +318,6 @@ pub geometry_again : (shape : GeoKind) (g : Geometry) (rest : List ℕ)
     → geometry_from shape (geometry_bytes g ++ rest) ≡ Some (g, rest)
 unfolding geometry_from
 geometry_again shape g rest fits =
-    let sound = none_is (fault_of g) (and_parts (has_shape shape g) (is_none (fault_of g)) fits).1 in
+    let sound =
+    none_is (fault_of g) (and_parts (has_shape shape g) (is_none (fault_of g)) fits).1 in
     rw (body_again g rest (kept g sound), fits) refl

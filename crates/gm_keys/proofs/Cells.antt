@@ -17,10 +17,12 @@ world_fits n (pos m) small within = grind (arith, common_steps)
 world_fits n (negsuc m) small within = grind (arith, common_steps)
 
 pub same_x : (p : Point) → is_in_world p ≡ true → to_z w32 (of_z w32 p.x) ≡ p.x
-same_x p within = to_z-of_z w32 p.x (world_fits 1800000000 p.x (omega arith) (and_parts _ _ within).0)
+same_x p within =
+    to_z-of_z w32 p.x (world_fits 1800000000 p.x (omega arith) (and_parts _ _ within).0)
 
 pub same_y : (p : Point) → is_in_world p ≡ true → to_z w32 (of_z w32 p.y) ≡ p.y
-same_y p within = to_z-of_z w32 p.y (world_fits 900000000 p.y (omega arith) (and_parts _ _ within).1)
+same_y p within =
+    to_z-of_z w32 p.y (world_fits 900000000 p.y (omega arith) (and_parts _ _ within).1)
 
 along_is : (half : ℕ) (z : ℤ) → is_within half z ≡ true → pos (along half z) ≡ z +ℤ pos half
 along_is half (pos m) fits = refl

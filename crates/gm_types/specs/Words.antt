@@ -5,8 +5,8 @@ use Rattle.std.specs.List.{list_all, list_any}
 use Rattle.std.specs.Char.{is_ascii_digit, is_ascii_alphabetic}
 use Rattle.std.specs.Cmp.Lexicographic.{pointwise}
 use Rattle.std.specs.Str.{is_utf8}
-use Rattle.gm_base.specs.Ascii.{colon, comma, decimal_point, equals_sign, minus_sign, semicolon, is_blank}
-use Rattle.gm_base.specs.Ascii.{single_quote, underscore}
+use Rattle.gm_base.specs.Ascii.{colon, comma, decimal_point, equals_sign, minus_sign, semicolon}
+use Rattle.gm_base.specs.Ascii.{is_blank, single_quote, underscore}
 
 -- two texts are the same, byte by byte
 abbrev pub same_text : List ℕ → List ℕ → Bool

@@ -15,5 +15,6 @@ pub returns-clause-only : goal.returns-clause-only
 returns-clause-only c = λ form rest is same.
     let told = c.in_ok-length.ensures in
     let read = told.only is.0 rest is.1 (same ∙ ap (λ x. x ++ rest) is.2) in
-    ap Some (second_is c.in_ok-length.field-0-0 is.0 c.in_ok-length.length 8 read ∙ sym (length-long is.0)
+    ap Some
+    (second_is c.in_ok-length.field-0-0 is.0 c.in_ok-length.length 8 read ∙ sym (length-long is.0)
     ∙ ap length (sym is.2))

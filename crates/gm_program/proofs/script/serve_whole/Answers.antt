@@ -16,7 +16,8 @@ returns-in_err-serve_piece-clause-err g c =
 pub returns-clause-ok : goal.returns-clause-ok
 returns-clause-ok g c = on_ok c.serve_last.result c.serve_last.ensures.ok (λ closes m kept.
     let script = c.args.script.now in
-    let first = c.in_ok-serve_piece.ensures.ok [] m (c.new-held.ensures.items ∙ sym cut-none) kept in
+    let first =
+    c.in_ok-serve_piece.ensures.ok [] m (c.new-held.ensures.items ∙ sym cut-none) kept in
     whole_served c.args.setting m script _ _ _ first
     (closes (partial_from [] script) (after c.args.setting m (complete_from [] script))
     (c.deref.ensures.value
@@ -25,7 +26,8 @@ returns-clause-ok g c = on_ok c.serve_last.result c.serve_last.ensures.ok (λ cl
 pub returns-clause-err : goal.returns-clause-err
 returns-clause-err g c = on_err c.serve_last.result c.serve_last.ensures.err (λ part m kept.
     let script = c.args.script.now in
-    let first = c.in_ok-serve_piece.ensures.ok [] m (c.new-held.ensures.items ∙ sym cut-none) kept in
+    let first =
+    c.in_ok-serve_piece.ensures.ok [] m (c.new-held.ensures.items ∙ sym cut-none) kept in
     part_at_end c.args.setting m script _ _ _ first
     (part (partial_from [] script) (after c.args.setting m (complete_from [] script))
     (c.deref.ensures.value
