@@ -37,16 +37,12 @@ pub fn byte_ranges(
 // How many bytes the two ends of a span of codes in a bin have.
 const ENDS_ROOM: usize = 28;
 
-// How many bytes an append behind a prefix wants for a while beyond those that stay.
-const PREFIX_ROOM: usize = 16;
-
 // A list with room for so many spans in each shard.
 fn room_for(alloc: Global, ranges: usize, shards: u8) -> Result<ByteRangeList, NoMemory>
     ensures { IfOk result (λ spans. spans ≡ []) }
 {
     let count = ranges.saturating_mul(usize::from(shards));
-    let bytes = count.saturating_mul(ENDS_ROOM).saturating_add(PREFIX_ROOM);
-    ByteRangeList::with_capacity(alloc, count, bytes)
+    ByteRangeList::with_capacity(alloc, count, count.saturating_mul(ENDS_ROOM))
 }
 
 // What the keys of an index begin with in a shard.
