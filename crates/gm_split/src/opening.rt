@@ -47,7 +47,7 @@ pub(crate) fn add<const D: usize, T: Tree<D>>(
 }
 
 // Takes a node's own code, if it has one.
-fn add_own(own: Option<u64>, into: &mut Front) -> Result<(), NoMemory>
+fn push_own(own: Option<u64>, into: &mut Front) -> Result<(), NoMemory>
     requires { into.old.runs < 2 ^ 32 }
     ensures { OnOk result ((s : Shape) → Takes s (own_pieces own) into.old into.new) }
 {
@@ -78,7 +78,7 @@ fn open_node<const D: usize, T: Tree<D>, L: Ledger>(
         (Takes s (opened D s windows.now node.now) into.old into.new) }
     ensures steps { steps.new ≤ steps.old + 2 ^ D }
 {
-    add_own(tree.own(node), into)?;
+    push_own(tree.own(node), into)?;
     for q in 0..children(D) {
         let child = tree.child(node, q, steps);
         add(tree, &child, windows, near, into)?;

@@ -74,7 +74,7 @@ fn read_option(alloc: Global, kind: Kind, text: &[u8]) -> Result<AttributeOption
     option_with(alloc, kind, key, value)
 }
 
-fn add_option(alloc: Global, kind: Kind, options: &mut OptionList, text: &[u8]) -> Result<(), Halt>
+fn push_option(alloc: Global, kind: Kind, options: &mut OptionList, text: &[u8]) -> Result<(), Halt>
     ensures { Adds (spec.option_of kind text.now) options.old options.new result }
 {
     let option = read_option(alloc, kind, text)?;
@@ -90,10 +90,10 @@ fn read_options(alloc: Global, kind: Kind, text: &[u8]) -> Result<OptionList, Ha
     let mut rest = text;
     'parts: loop {
         let Some((part, behind)) = cut_once(rest, b':') else {
-            add_option(alloc, kind, &mut options, rest)?;
+            push_option(alloc, kind, &mut options, rest)?;
             return Ok(options);
         };
-        add_option(alloc, kind, &mut options, part)?;
+        push_option(alloc, kind, &mut options, part)?;
         rest = behind;
     }
 }
@@ -217,7 +217,7 @@ fn read_attribute(alloc: Global, part: &[u8]) -> Result<Attribute, Halt>
     typed_attribute(alloc, name, behind)
 }
 
-fn add_attribute(alloc: Global, attributes: &mut AttributeList, part: &[u8]) -> Result<(), Halt>
+fn push_attribute(alloc: Global, attributes: &mut AttributeList, part: &[u8]) -> Result<(), Halt>
     ensures { Adds (spec.attribute_of part.now) attributes.old attributes.new result }
 {
     let attribute = read_attribute(alloc, part)?;
@@ -233,10 +233,10 @@ pub(crate) fn read_attributes(alloc: Global, text: &[u8]) -> Result<AttributeLis
     let mut rest = text;
     'parts: loop {
         let Some((part, behind)) = cut_once(rest, b',') else {
-            add_attribute(alloc, &mut attributes, rest)?;
+            push_attribute(alloc, &mut attributes, rest)?;
             return Ok(attributes);
         };
-        add_attribute(alloc, &mut attributes, part)?;
+        push_attribute(alloc, &mut attributes, part)?;
         rest = behind;
     }
 }

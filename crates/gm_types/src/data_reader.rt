@@ -53,7 +53,7 @@ fn read_datum(alloc: Global, part: &[u8]) -> Result<Datum, Halt>
     datum_with(alloc, key, value)
 }
 
-fn add_datum(alloc: Global, list: &mut DataList, part: &[u8]) -> Result<(), Halt>
+fn push_datum(alloc: Global, list: &mut DataList, part: &[u8]) -> Result<(), Halt>
     ensures { Adds (spec.datum_of part.now) list.old list.new result }
 {
     let datum = read_datum(alloc, part)?;
@@ -69,10 +69,10 @@ pub(crate) fn read_data(alloc: Global, text: &[u8]) -> Result<DataList, Halt>
     let mut rest = text;
     'parts: loop {
         let Some((part, behind)) = cut_once(rest, b',') else {
-            add_datum(alloc, &mut list, rest)?;
+            push_datum(alloc, &mut list, rest)?;
             return Ok(list);
         };
-        add_datum(alloc, &mut list, part)?;
+        push_datum(alloc, &mut list, part)?;
         rest = behind;
     }
 }

@@ -9,7 +9,7 @@ use std::alloc::Global;
 /// Indexes, in the order of their kinds.
 pub type IndexList = Items<IndexKind>;
 
-fn add_enabled(list: &mut IndexList, of: &FeatureType, kind: IndexKind) -> Result<(), NoMemory>
+fn push_enabled(list: &mut IndexList, of: &FeatureType, kind: IndexKind) -> Result<(), NoMemory>
     ensures { OnOk result (list.new ≡ list.old ++ filter (spec.has_index of.now) (kind ∷ [])) }
 {
     if of.has(kind) {
@@ -18,14 +18,14 @@ fn add_enabled(list: &mut IndexList, of: &FeatureType, kind: IndexKind) -> Resul
     Ok(())
 }
 
-fn add_attributes(list: &mut IndexList, of: &FeatureType) -> Result<(), NoMemory>
+fn push_attributes(list: &mut IndexList, of: &FeatureType) -> Result<(), NoMemory>
     ensures { OnOk result (list.new
         ≡ list.old ++ filter (spec.has_index of.now)
         (spec.attribute_indexes 0 (length of.now.attributes))) }
 {
     let count = of.attributes().len();
     for number in 0..count {
-        add_enabled(list, of, IndexKind::Attr(number as u16))?;
+        push_enabled(list, of, IndexKind::Attr(number as u16))?;
     }
     Ok(())
 }
@@ -35,12 +35,12 @@ pub fn enabled_indexes(alloc: Global, of: &FeatureType) -> Result<IndexList, NoM
     ensures { IfOk result (λ list. list ≡ spec.enabled_indexes of.now) }
 {
     let mut list = Items::new(alloc);
-    add_enabled(&mut list, of, IndexKind::Id)?;
-    add_enabled(&mut list, of, IndexKind::Z2)?;
-    add_enabled(&mut list, of, IndexKind::Z3)?;
-    add_enabled(&mut list, of, IndexKind::Xz2)?;
-    add_enabled(&mut list, of, IndexKind::Xz3)?;
-    add_attributes(&mut list, of)?;
+    push_enabled(&mut list, of, IndexKind::Id)?;
+    push_enabled(&mut list, of, IndexKind::Z2)?;
+    push_enabled(&mut list, of, IndexKind::Z3)?;
+    push_enabled(&mut list, of, IndexKind::Xz2)?;
+    push_enabled(&mut list, of, IndexKind::Xz3)?;
+    push_attributes(&mut list, of)?;
     Ok(list)
 }
 

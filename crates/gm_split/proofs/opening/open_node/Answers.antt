@@ -12,7 +12,7 @@ loop-q-init g c =
       within = omega arith;
       steps = omega arith;
       took = own_taken g.row.D s c.args.windows.now c.args.node.now c.own.result _ _ c.own.ensures
-          (c.in_ok-add_own.ensures s);
+          (c.in_ok-push_own.ensures s);
     }
 
 pub add-requires-clause-seen : goal.add-requires-clause-seen

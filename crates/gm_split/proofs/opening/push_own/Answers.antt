@@ -2,7 +2,7 @@ use Rattle.std.proofs.Common.{sym, subst}
 use Rattle.std.proofs.lemmas.Result.{on_ok_weaker}
 use Rattle.gm_split.specs.Opening.{own_pieces}
 use Rattle.gm_split.specs.Front.{Takes}
-use Rattle.gm_split.proofs.opening.add_own.Goals as goal
+use Rattle.gm_split.proofs.opening.push_own.Goals as goal
 
 pub returns-in-Some : goal.returns-in-Some
 returns-in-Some c =

@@ -1,7 +1,7 @@
 use Rattle.std.proofs.Common.{◌≡◌, ◌++◌}
 use Rattle.std.specs.Prelude.{filter}
 use Rattle.gm_types.specs.Index.{has_index, attribute_indexes}
-use Rattle.gm_types.proofs.indexes.add_attributes.Given as goal
+use Rattle.gm_types.proofs.indexes.push_attributes.Given as goal
 
 abbrev pub invariant-loop-number : goal.invariant-loop-number
 invariant-loop-number l =
