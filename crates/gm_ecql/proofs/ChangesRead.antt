@@ -17,7 +17,7 @@ use Rattle.gm_ecql.specs.Parser.{document}
 use Rattle.gm_ecql.specs.Places.{keyword_place}
 use Rattle.gm_ecql.specs.Reader.{after_keyword, name_at, constant_at}
 use Rattle.gm_ecql.specs.Token.{Seen, a_keyword, a_name, a_text, an_instant, a_number, a_symbol}
-use Rattle.gm_ecql.specs.Words.{begins_geometry}
+use Rattle.gm_ecql.specs.Keyword.{begins_geometry}
 use Rattle.gm_ecql.proofs.Places.{same_keyword}
 use Rattle.gm_ecql.proofs.Readers.{keyword_first, name_first}
 use Rattle.gm_ecql.proofs.Sound.{chosen}

@@ -21,7 +21,7 @@ use Rattle.std.specs.Prelude.{IsUtf8, slice_index}
 use Rattle.std.specs.Str.{is_utf8}
 use Rattle.std.proofs.lemmas.Str.{is_utf8-from_IsUtf8, IsUtf8-from_is_utf8, IsUtf8-from_ascii}
 use Rattle.gm_ecql.specs.declared.keyword.Keyword.{Keyword}
-use Rattle.gm_ecql.specs.Words.{keyword_of}
+use Rattle.gm_ecql.specs.Keyword.{keyword_of}
 use Rattle.gm_ecql.specs.Scanner.{Found, if_utf8, a_name_then, a_text_then, a_number_then, as_word}
 use Rattle.gm_ecql.specs.Scanner.{closed_name, text_end, text_cut, if_instant, instant_at}
 use Rattle.gm_ecql.specs.Scanner.{number_end, if_number, number_at, less_at, more_at, as_symbol}

@@ -28,7 +28,7 @@ use Rattle.gm_ecql.specs.Geometry as piece
 use Rattle.gm_ecql.specs.Grammar.{comma, opening, closing, IsGeometryPiece}
 use Rattle.gm_ecql.specs.Limits.{depth_behind, is_number}
 use Rattle.gm_ecql.specs.Token.{Seen, a_keyword, a_number}
-use Rattle.gm_ecql.specs.Words.{begins_geometry, keyword_text}
+use Rattle.gm_ecql.specs.Keyword.{begins_geometry, keyword_text}
 use Rattle.gm_ecql.proofs.Lexemes.{Lexed}
 use Rattle.gm_ecql.proofs.PrintedWords.{keyword_piece}
 use Rattle.gm_ecql.proofs.Sequences.{Begins, Opened, Printed, opened, join, opened_join, blank_one}

@@ -51,7 +51,7 @@ use Rattle.gm_ecql.specs.Test.{Sides, Question, in_box, related, compared, betwe
 use Rattle.gm_ecql.specs.Test.{one_of, null, during, timed, Trial, include, exclude, ids, named}
 use Rattle.gm_ecql.specs.Token.{Seen, a_keyword, a_name, a_text, an_instant, a_number, a_symbol}
 use Rattle.gm_ecql.specs.Token.{symbol_text}
-use Rattle.gm_ecql.specs.Words.{keyword_text}
+use Rattle.gm_ecql.specs.Keyword.{keyword_text}
 use Rattle.gm_ecql.proofs.Doubling.{doubled_utf8}
 use Rattle.gm_ecql.proofs.Fixed.{fixed_printed}
 use Rattle.gm_ecql.proofs.Lexemes.{Lexed, one}

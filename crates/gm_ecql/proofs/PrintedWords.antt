@@ -11,7 +11,7 @@ use Rattle.gm_ecql.specs.declared.keyword.Keyword.TheVariants as k
 use Rattle.gm_ecql.specs.Printer.{name_text, name_unless, quoted_text}
 use Rattle.gm_ecql.specs.Token.{a_keyword, a_name, a_text, is_word_start, is_word_byte}
 use Rattle.gm_ecql.specs.Token.{is_no_double, Starts, IsPiece, doubled}
-use Rattle.gm_ecql.specs.Words.{keyword_text, keyword_of}
+use Rattle.gm_ecql.specs.Keyword.{keyword_text, keyword_of}
 use Rattle.gm_ecql.proofs.Lexemes.{Ends, ends_word, ends_single}
 
 keyword_named : (x : Keyword) → keyword_of (keyword_text x) ≡ Some x

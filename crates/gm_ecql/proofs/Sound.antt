@@ -20,7 +20,7 @@ use Rattle.std.specs.Prelude.{IsUtf8}
 use Rattle.std.specs.Str.{is_utf8}
 use Rattle.std.proofs.lemmas.Str.{IsUtf8-from_is_utf8}
 use Rattle.gm_ecql.specs.declared.keyword.Keyword.{Keyword}
-use Rattle.gm_ecql.specs.Words.{keyword_of}
+use Rattle.gm_ecql.specs.Keyword.{keyword_of}
 use Rattle.gm_ecql.specs.Scanner.{Found, if_utf8, a_name_then, a_text_then, a_number_then, as_word}
 use Rattle.gm_ecql.specs.Scanner.{word_at, name_at, closed_name, text_end, text_cut, text_at}
 use Rattle.gm_ecql.specs.Scanner.{if_instant, is_e, goes_on, number_end, if_number, number_at}

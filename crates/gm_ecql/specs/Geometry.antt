@@ -11,7 +11,7 @@ use Rattle.gm_ecql.specs.declared.token.Symbol.TheVariants as symbol
 use Rattle.gm_ecql.specs.Limits.{depth_behind, is_number}
 use Rattle.gm_ecql.specs.Token.{Seen, a_keyword, a_name, a_text, an_instant, a_number, a_symbol}
 use Rattle.gm_ecql.specs.Token.{symbol_text}
-use Rattle.gm_ecql.specs.Words.{begins_geometry, keyword_text}
+use Rattle.gm_ecql.specs.Keyword.{begins_geometry, keyword_text}
 
 abbrev pub is_geometry_word : Seen → Bool
 is_geometry_word (a_keyword k) = begins_geometry k

@@ -13,4 +13,4 @@ pub mod Reader
 pub mod Scanner
 pub mod Test
 pub mod Token
-pub mod Words
+pub mod Keyword

@@ -21,7 +21,7 @@ use Rattle.gm_filter.specs.Tree.{like, one_of, is_null, ids, bbox, intersects, d
 use Rattle.gm_filter.specs.Tree.{during, before, after, tequals, no_trees, tree_and}
 use Rattle.gm_ecql.specs.declared.keyword.Keyword.{Keyword}
 use Rattle.gm_ecql.specs.Token.{doubled}
-use Rattle.gm_ecql.specs.Words.{keyword_of}
+use Rattle.gm_ecql.specs.Keyword.{keyword_of}
 
 abbrev pub name_if : Option (List ℕ) → List ℕ
 name_if None = []

@@ -10,7 +10,7 @@ use Rattle.gm_calendar.specs.Spelling.{instant_of, has_date_form, is_instant_byt
 use Rattle.gm_ecql.specs.declared.token.Symbol.{Symbol}
 use Rattle.gm_ecql.specs.declared.token.Symbol.TheVariants as symbol
 use Rattle.gm_ecql.specs.declared.keyword.Keyword.{Keyword}
-use Rattle.gm_ecql.specs.Words.{keyword_of}
+use Rattle.gm_ecql.specs.Keyword.{keyword_of}
 use Rattle.gm_ecql.specs.Token.{Seen, a_keyword, a_name, a_text, an_instant, a_number, a_symbol}
 use Rattle.gm_ecql.specs.Token.{is_word_start, is_word_byte, is_no_double, is_sign}
 use Rattle.gm_ecql.specs.Token.{is_number_start, is_number_tail, undoubled}

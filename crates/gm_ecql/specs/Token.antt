@@ -15,7 +15,7 @@ use Rattle.gm_ecql.specs.declared.token.Symbol.TheVariants as symbol
 use Rattle.gm_ecql.specs.declared.token.Token.{Token}
 use Rattle.gm_ecql.specs.declared.token.Token.TheVariants as token
 use Rattle.gm_ecql.specs.declared.token.Spaced.{Spaced}
-use Rattle.gm_ecql.specs.Words.{keyword_of}
+use Rattle.gm_ecql.specs.Keyword.{keyword_of}
 
 -- what a token says: of a word that is no keyword, and of a quoted name, the name, and of a text
 -- its bytes with one quote for each pair

@@ -1,7 +1,7 @@
 // The words that are no names.
 ghost use Rattle.std.specs.Prelude.{◌≡◌, map};
 ghost use Rattle.std.specs.Char.{to_ascii_lowercase};
-ghost use Rattle.gm_ecql.specs.Words as spec;
+ghost use Rattle.gm_ecql.specs.Keyword as spec;
 
 /// A word of the language, in any ASCII case. A name that is one stands in double quotes.
 #[derive(Clone, Copy, Debug, PartialEq, Eq)]

@@ -18,7 +18,7 @@ use Rattle.gm_wkt.specs.Grammar.{AreBlanks, keyword_text, keyword_of, SpellsLone
 use Rattle.gm_wkt.specs.Grammar.{SpellsLine, SpellsRings, SpellsLoose, SpellsPosition, SpellsList}
 use Rattle.gm_wkt.specs.Grammar.{SpellsBody, SpellsText}
 use Rattle.gm_wkt.specs.Reader.{skip_blanks, Starts, Stops}
-use Rattle.gm_wkt.specs.Words.{letter_run, is_named, keyword_named}
+use Rattle.gm_wkt.specs.Keyword.{letter_run, is_named, keyword_named}
 use Rattle.gm_wkt.proofs.Scans.{take_run, drop_run, skip_over, skipped}
 
 lower_letter : (b c : ℕ) → to_ascii_lowercase b ≡ c → is_ascii_lowercase c ≡ true

@@ -9,7 +9,7 @@ use Rattle.gm_wkt.specs.Grammar.{SpellsLoose, SpellsBody, SpellsText, keyword_of
 use Rattle.gm_wkt.specs.Reader.{skip_blanks, separator, separator_at, point_at, SpellsPoint}
 use Rattle.gm_wkt.specs.Reader.{Starts, Ends, UpTo}
 use Rattle.gm_wkt.specs.Starting.{point_starts, list_starts}
-use Rattle.gm_wkt.specs.Words.{letter_run}
+use Rattle.gm_wkt.specs.Keyword.{letter_run}
 use Rattle.gm_wkt.proofs.Points.{point_only}
 use Rattle.gm_wkt.proofs.Members.{member_item, list_at_front}
 use Rattle.gm_wkt.proofs.Readers.{pair_parts}

@@ -18,7 +18,7 @@ use Rattle.gm_wkt.specs.Starting.{point_starts, list_starts}
 use Rattle.gm_wkt.specs.declared.fault.WktFault.{WktFault}
 use Rattle.gm_wkt.specs.declared.fault.WktFault.TheVariants as fault
 use Rattle.gm_wkt.specs.Answer.{IsAnswer, IsUnlessMemory, kept_or, judged, answer_of}
-use Rattle.gm_wkt.specs.Words.{letter_run, keyword_named}
+use Rattle.gm_wkt.specs.Keyword.{letter_run, keyword_named}
 use Rattle.gm_wkt.specs.Value.{Reader, member_then, members_at, list_at, if_last, whole, line_at}
 use Rattle.gm_wkt.specs.Value.{body_of, geometry_of}
 use Rattle.gm_wkt.proofs.Points.{point_found, point_only, lone_found, lone_only, behind_some}

@@ -11,7 +11,7 @@ use Rattle.gm_wkt.specs.declared.fault.WktFault.{WktFault}
 use Rattle.gm_wkt.specs.declared.fault.WktFault.TheVariants as fault
 use Rattle.gm_wkt.specs.Answer.{IsAnswer, IsReadAs}
 use Rattle.gm_wkt.specs.Grammar.{SpellsLone, SpellsText, SpellsBody, keyword_of}
-use Rattle.gm_wkt.specs.Words.{letter_run, keyword_named}
+use Rattle.gm_wkt.specs.Keyword.{letter_run, keyword_named}
 use Rattle.gm_wkt.specs.Reader.{skip_blanks, lone_at}
 use Rattle.gm_wkt.proofs.Keywords.{text_keyword, text_body}
 use Rattle.gm_wkt.proofs.Points.{lone_found, lone_only}

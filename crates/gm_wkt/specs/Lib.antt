@@ -4,4 +4,4 @@ pub mod Printer
 pub mod Reader
 pub mod Starting
 pub mod Value
-pub mod Words
+pub mod Keyword

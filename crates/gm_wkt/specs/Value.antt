@@ -9,7 +9,7 @@ use Rattle.gm_wkt.specs.declared.keyword.Keyword.{Keyword}
 use Rattle.gm_wkt.specs.declared.keyword.Keyword.TheVariants as keyword
 use Rattle.gm_base.specs.Ascii.{opening}
 use Rattle.gm_wkt.specs.Reader.{skip_blanks, behind, point_at, lone_at, separator_at}
-use Rattle.gm_wkt.specs.Words.{letter_run, keyword_named}
+use Rattle.gm_wkt.specs.Keyword.{letter_run, keyword_named}
 
 -- a value at the front, and what follows it
 abbrev pub Reader : Type 0 → Type 0

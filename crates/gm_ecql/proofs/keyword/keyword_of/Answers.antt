@@ -1,4 +1,4 @@
-use Rattle.gm_ecql.specs.Words.{keyword_of}
+use Rattle.gm_ecql.specs.Keyword.{keyword_of}
 use Rattle.gm_ecql.proofs.keyword.keyword_of.Goals as goal
 
 pub returns : goal.returns

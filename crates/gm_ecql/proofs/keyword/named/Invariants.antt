@@ -1,6 +1,6 @@
 use Rattle.std.proofs.Common.{◌≡◌, map, drop}
 use Rattle.std.specs.Char.{to_ascii_lowercase}
-use Rattle.gm_ecql.specs.Words.{first_named}
+use Rattle.gm_ecql.specs.Keyword.{first_named}
 use Rattle.gm_ecql.proofs.keyword.named.Given as goal
 
 abbrev pub invariant-keywords : goal.invariant-keywords

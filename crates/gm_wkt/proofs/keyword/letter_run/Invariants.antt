@@ -1,5 +1,5 @@
 use Rattle.std.proofs.Common.{◌≡◌, ◌+◌, drop}
-use Rattle.gm_wkt.specs.Words.{letter_run}
+use Rattle.gm_wkt.specs.Keyword.{letter_run}
 use Rattle.gm_wkt.proofs.keyword.letter_run.Given as goal
 
 abbrev pub invariant-bytes : goal.invariant-bytes
