@@ -148,9 +148,9 @@ number_of text =
 
 -- how large the parts of a number of 38 bytes can be
 pub record Fits (n : Number) : Type 0 where
-  pub value : n.value < 10 ^ 38
-  pub places : n.places ≤ 38
-  pub exponent : n.exponent.value < 1000
+  pub value : n.value < 10 ^ number_limit
+  pub places : n.places ≤ number_limit
+  pub exponent : n.exponent.value < 10 ^ exponent_digits
 
 -- the quotient, rounded to the nearest whole number, a half up
 abbrev pub nearest : ℕ → ℕ → ℕ

@@ -1,5 +1,5 @@
 -- The cells of places and moments along each dimension, and the codes of what covers them.
-use Rattle.std.specs.Prelude.{◌≡◌, true, ◌≤ℤ◌, ℕ, ℤ, pos, negsuc, ◌+ℤ◌, List, [], ◌∷◌}
+use Rattle.std.specs.Prelude.{◌≡◌, true, ◌≤ℤ◌, ℕ, ℤ, pos, negsuc, ◌*◌, ◌+ℤ◌, List, [], ◌∷◌}
 use Rattle.gm_calendar.specs.declared.period.Period.{Period}
 use Rattle.gm_calendar.specs.Period.{longest_of}
 use Rattle.gm_curve.specs.Curve.{z_code as code_of_cells}
@@ -20,10 +20,10 @@ along half z = natural (z +ℤ pos half)
 
 -- the size of the world in units
 abbrev pub world_width : ℕ
-world_width = 3600000000
+world_width = 2 * longitude_limit
 
 abbrev pub world_height : ℕ
-world_height = 1800000000
+world_height = 2 * latitude_limit
 
 -- the cell of a longitude, of a latitude, and of an offset in a bin, among 2^bits along each
 abbrev pub longitude_cell : ℕ → ℤ → ℕ

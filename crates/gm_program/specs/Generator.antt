@@ -4,14 +4,21 @@ use Rattle.std.specs.Prelude.{◌++◌, codes}
 use Rattle.std.specs.Fmt.{decimal}
 use Rattle.gm_geom.specs.Validity.{longitude_limit, latitude_limit}
 use Rattle.gm_base.specs.Ascii.{line_feed}
+use Rattle.gm_calendar.specs.Instant.{second_ms}
 use Rattle.gm_calendar.specs.Spelling.{instant_text}
 use Rattle.gm_geom.specs.Number.{fixed_text}
 
 -- ---- draws
 
+abbrev pub multiplier : ℕ
+multiplier = 6364136223846793005
+
+abbrev pub increment : ℕ
+increment = 1442695040888963407
+
 -- the state behind a draw (a linear congruential generator with Knuth's multiplier)
 abbrev pub next : ℕ → ℕ
-next state = (state * 6364136223846793005 + 1442695040888963407) % 2 ^ 64
+next state = (state * multiplier + increment) % 2 ^ 64
 
 -- the number below n that a state gives
 abbrev pub drawn : ℕ → ℕ → ℕ
@@ -27,9 +34,16 @@ behind (suc n) state = behind n (next state)
 abbrev pub line : List ℕ → List ℕ
 line text = text ++ line_feed ∷ []
 
+-- the start of 2020, in milliseconds since 1970, and how many seconds of that year are drawn from
+abbrev pub start_of_2020 : ℕ
+start_of_2020 = 1577836800000
+
+abbrev pub seconds_of_2020 : ℕ
+seconds_of_2020 = 31536000
+
 -- in milliseconds since 1970
 abbrev pub second_of_2020 : ℕ → ℤ
-second_of_2020 second = pos (1577836800000 + 1000 * second)
+second_of_2020 second = pos (start_of_2020 + second_ms * second)
 
 -- a coordinate that is counted from the least, counted from the middle
 abbrev pub centred : ℕ → ℕ → ℤ
@@ -43,17 +57,17 @@ place_text x y =
 
 -- how many longitudes and latitudes there are
 abbrev pub longitudes : ℕ
-longitudes = 3600000001
+longitudes = 2 * longitude_limit + 1
 
 abbrev pub latitudes : ℕ
-latitudes = 1800000001
+latitudes = 2 * latitude_limit + 1
 
 -- the feature with this number: a name, a number, a second of 2020 and a place, drawn in this order
 unfoldable pub put_line : ℕ → ℕ → List ℕ
 put_line number state =
     codes "put gen g" ++ (decimal number ++ (codes ",n" ++ (decimal (drawn 100 (behind 1 state))
     ++ (codes "," ++ (decimal (drawn 1000 (behind 2 state))
-    ++ (codes "," ++ (instant_text (second_of_2020 (drawn 31536000 (behind 3 state)))
+    ++ (codes "," ++ (instant_text (second_of_2020 (drawn seconds_of_2020 (behind 3 state)))
     ++ place_text (drawn longitudes (behind 4 state)) (drawn latitudes (behind 5 state)))))))))
 
 -- so many features, the first with this number

@@ -1,6 +1,7 @@
 -- A script as lines. Each ends with a 0x0A, or at the end of the script.
-use Rattle.std.specs.Prelude.{ℕ, List, [], ◌∷◌, ◌++◌, take, if◌then◌else◌, ◌==◌}
+use Rattle.std.specs.Prelude.{ℕ, ◌+◌, List, [], ◌∷◌, ◌++◌, take, if◌then◌else◌, ◌==◌}
 use Rattle.gm_base.specs.Ascii.{line_feed}
+use Rattle.gm_script.specs.Line.{line_limit}
 
 -- the lines that end in these bytes, where so much of the first was before them
 abbrev pub complete_from : List ℕ → List ℕ → List (List ℕ)
@@ -25,7 +26,7 @@ lines_of script = complete_from [] script ++ last_line (partial_from [] script)
 
 -- the length from which a line is too long: over 1,048,576 bytes
 abbrev pub cut_length : ℕ
-cut_length = 1048577
+cut_length = line_limit + 1
 
 -- as much of a line as shows whether it is too long
 unfoldable pub cut : List ℕ → List ℕ

@@ -1,6 +1,6 @@
 -- Which order a line is, for the types that there are, or why it is refused.
-use Rattle.std.specs.Prelude.{◌≡◌, ℕ, ◌||◌, ◌&&◌, nat_lt, not, if◌then◌else◌, List, length, codes}
-use Rattle.std.specs.Prelude.{slice_get, Option, Some, None, is_some, option_map, option_and_then}
+use Rattle.std.specs.Prelude.{◌≡◌, ℕ, ◌+◌, ◌||◌, ◌&&◌, nat_lt, not, if◌then◌else◌, List, length}
+use Rattle.std.specs.Prelude.{codes, slice_get, Option, Some, None, is_some, option_map, option_and_then}
 use Rattle.std.specs.Prelude.{Result, Ok, Err}
 use Rattle.std.specs.Str.{is_utf8}
 use Rattle.gm_script.specs.Suits.{most_types}
@@ -11,7 +11,7 @@ use Rattle.gm_base.specs.declared.code.Code.TheVariants.{E12, E17, E19}
 use Rattle.gm_base.specs.Identifier.{is_identifier}
 use Rattle.gm_types.specs.declared.index.IndexKind.{IndexKind}
 use Rattle.gm_types.specs.Reader.{specification_of}
-use Rattle.gm_types.specs.Specification.{Specification}
+use Rattle.gm_types.specs.Specification.{Specification, most_attributes}
 use Rattle.gm_types.specs.TypeList.{number_of_name}
 use Rattle.gm_types.specs.Words.{same_text, is_name}
 use Rattle.gm_feature.specs.declared.feature.Feature.{Feature}
@@ -66,7 +66,7 @@ type_for types name rest = with_rest types name rest (λ n t. Ok (n, t))
 -- ---- create
 -- so many attributes are more than a type may have
 abbrev pub attributes_too_many : ℕ
-attributes_too_many = 65
+attributes_too_many = most_attributes + 1
 
 -- a further type, where there is room for one among 100
 abbrev pub create_type : List Specification → Specification → Given
