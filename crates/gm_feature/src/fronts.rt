@@ -1,6 +1,6 @@
 // Fields at the front of bytes, and the bytes behind them. Of bytes that spell no such field
 // nothing is said.
-ghost use Rattle.std.specs.Prelude.{◌≡◌};
+ghost use Rattle.std.specs.Prelude.{◌≡◌, ◌≤◌, ◌*◌, length};
 ghost use Rattle.std.specs.Int.{w16, w32, w64};
 ghost use Rattle.std.specs.Option.{ForSome};
 ghost use Rattle.gm_feature.specs.Reader.{number_from, signed_from, string_from};
@@ -85,8 +85,9 @@ pub fn string_at(bytes: &[u8]) -> (&[u8], &[u8])
 /// A count of members that have at least so many bytes each, and 0 where there are fewer bytes.
 #[tactic(auto, unfolding(crate::specs::Reader::count_from))]
 pub fn count_at(least: u8, bytes: &[u8]) -> (u32, &[u8])
-    ensures { ForSome (count_from least bytes.now)
+    ensures count { ForSome (count_from least bytes.now)
         (λ x. (result.0 ≡ x.0) × (result.1.now ≡ x.1)) }
+    ensures held { result.0 * least ≤ length result.1.now }
 {
     let (count, rest) = number_at(bytes);
     if (rest.len() as u64) < u64::from(count) * u64::from(least) {
