@@ -37,6 +37,6 @@ are_of_one_sign m n =
 abbrev pub is_beside : Segment → Segment → Bool
 is_beside s t = are_of_one_sign (side_of s.start s.end t.start) (side_of s.start s.end t.end)
 
--- the closed segments s and t have a point in common
+-- the closed segments s and t meet: their boxes overlap, and neither lies on one side of the other
 abbrev pub do_meet : Segment → Segment → Bool
 do_meet s t = do_overlap (box_of s) (box_of t) && (not (is_beside s t) && not (is_beside t s))

@@ -14,9 +14,8 @@ use crate::segment::do_overlap;
 use crate::vertex::any_vertex;
 use gm_geom::{Areas, Geometry, Point, Rings};
 
-/// Whether two geometries have a point in common: an edge of the one meets an edge of the other, a
-/// point counting as an edge, or a vertex of the one is in a polygon of the other. It is exact, and
-/// takes no memory.
+/// Whether two geometries meet: an edge of the one meets an edge of the other, a point counting as
+/// an edge, or a vertex of the one is in a polygon of the other. It is exact, and takes no memory.
 pub fn intersects(one: &Geometry, two: &Geometry) -> bool
     requires one_kept { fault_of one.now ≡ None }
     requires two_kept { fault_of two.now ≡ None }

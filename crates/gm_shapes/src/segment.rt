@@ -12,8 +12,9 @@ pub struct Segment {
     pub end: Point,
 }
 
-/// Whether the closed segment from a to b and the one from c to d have a point in common.
-/// It is exact, takes no memory, and holds for degenerate and collinear segments too.
+/// Whether the closed segment from a to b and the one from c to d meet: their boxes overlap, and
+/// neither has both ends strictly on one side of the line through the other. It is exact, takes no
+/// memory, and holds for degenerate and collinear segments too.
 pub fn segments_meet(a: Point, b: Point, c: Point, d: Point) -> bool
     ensures { result ≡ do_meet (segment a b) (segment c d) }
 {
