@@ -44,6 +44,7 @@ use Rattle.gm_plan.specs.Windows.{window_in, windows_in}
 use Rattle.gm_plan.proofs.InPlane.{Overlap, ShardLaw, shards_few, runs_narrow}
 use Rattle.gm_plan.proofs.Members.{AreRising, any_kept, any_in_flat, stands, filter_rises}
 use Rattle.gm_plan.proofs.Members.{filter_below, at_below, first_most, last_least, some_of}
+use Rattle.gm_plan.proofs.Times.{start_least}
 use Rattle.gm_plan.proofs.Rising.{Rises, longitude_rises, latitude_rises}
 use Rattle.gm_plan.proofs.Within.{CodeLaws, AreNarrow, any_flat, any_range, within_is, bin_end}
 use Rattle.gm_plan.proofs.Within.{bin_code_end}
@@ -83,10 +84,6 @@ started : (o : Option ℤ) (first at : ℤ) → has_begun o at ≡ true → firs
 started None first at h k = k
 started (Some low) first at h k = let l = le_from low at h in omega (arith, ints, clamps, l, k)
 
-start_from : (o : Option ℤ) (first : ℤ) → first ≤ℤ not_before o first
-start_from None first = omega (arith, ints)
-start_from (Some low) first = omega (arith, ints, clamps)
-
 ended : (o : Option ℤ) (last at : ℤ) → has_not_ended o at ≡ true → at ≤ℤ last
     → at ≤ℤ not_after o last
 ended None last at h k = k
@@ -108,7 +105,7 @@ moment period at bin i is h =
     let a = started i.low (first_ms period bin.number) at parts.0 is.started in
     let b = ended i.high (last_ms period bin.number) at parts.1
     (before_next at (first_ms period (bin.number + 1)) is.not_ended) in
-    let first = start_from i.low (first_ms period bin.number) in
+    let first = start_least i.low (first_ms period bin.number) in
     record {
       meets = le_to _ _
           (between (start_in period bin.number i) at (end_in period bin.number i) a b);

@@ -22,7 +22,7 @@ pub mod PlaneReads
 pub mod Raising
 pub mod Rising
 pub mod Rooms
-pub mod Signed
+pub mod FlatRanges
 pub mod SpaceReads
 pub mod Times
 pub mod Values

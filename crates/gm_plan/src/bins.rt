@@ -11,26 +11,35 @@ use gm_bounds::Interval;
 use gm_calendar::{Instant, LAST_MS, Period, bin_of, bin_span, bins_follow_time, last_bin};
 use std::alloc::Global;
 
-/// The first millisecond of an interval in a bin, and its last.
-pub(crate) fn start_in(period: Period, bin_number: u16, interval: Interval) -> i64
+/// The first millisecond of an interval in a bin, and its last. Where they don't meet, the last is
+/// below the first.
+pub(crate) fn part_in(period: Period, bin_number: u16, interval: Interval) -> (i64, i64)
     requires { bin_number ≤ last_of period }
-    ensures { result ≡ spec.start_in period bin_number interval }
+    ensures start { result.0 ≡ spec.start_in period bin_number interval }
+    ensures end { result.1 ≡ spec.end_in period bin_number interval }
 {
-    let (first, _) = bin_span(period, bin_number);
-    match interval.low {
-        Some(low) => low.max(first),
-        None => first,
+    let (first, last) = bin_span(period, bin_number);
+    (
+        not_before(interval.low, first),
+        not_after(interval.high, last),
+    )
+}
+
+fn not_before(low: Option<i64>, at: i64) -> i64
+    ensures { result ≡ spec.not_before low at }
+{
+    match low {
+        Some(low) => low.max(at),
+        None => at,
     }
 }
 
-pub(crate) fn end_in(period: Period, bin_number: u16, interval: Interval) -> i64
-    requires { bin_number ≤ last_of period }
-    ensures { result ≡ spec.end_in period bin_number interval }
+fn not_after(high: Option<i64>, at: i64) -> i64
+    ensures { result ≡ spec.not_after high at }
 {
-    let (_, last) = bin_span(period, bin_number);
-    match interval.high {
-        Some(high) => high.min(last),
-        None => last,
+    match high {
+        Some(high) => high.min(at),
+        None => at,
     }
 }
 
@@ -39,7 +48,8 @@ pub(crate) fn meets_bin(period: Period, bin_number: u16, interval: Interval) -> 
     requires { bin_number ≤ last_of period }
     ensures { result ≡ spec.meets_bin period bin_number interval }
 {
-    start_in(period, bin_number, interval) <= end_in(period, bin_number, interval)
+    let (start, end) = part_in(period, bin_number, interval);
+    start <= end
 }
 
 fn is_met(period: Period, intervals: &[Interval], bin_number: u16) -> bool
@@ -78,7 +88,7 @@ pub(crate) fn offset_in(period: Period, bin_number: u16, at: i64) -> u32
     (ms / unit_ms(period)) as u32
 }
 
-/// The bins that an interval meets, each once, the first first.
+/// The bins that one of the intervals meets, each once, the first first.
 #[tactic(auto, using(crate::proofs::Times::met_next))]
 pub(crate) fn bins_of(
     alloc: Global,

@@ -90,7 +90,7 @@ fn all_keys(alloc: Global) -> Result<RangeList, NoMemory>
 fn one_each(alloc: Global, ids: IdList) -> Result<RangeList, NoMemory>
     ensures { IfOk result (λ list. list ≡ map (λ id. OneId id) ids) }
 {
-    let mut list = Vec::new(alloc);
+    let mut list = Vec::with_capacity(alloc, ids.len())?;
     'ids: for id in ids.into_vec() {
         list.push(Range::OneId(id))?;
     }

@@ -14,7 +14,7 @@ use std::alloc::Global;
 pub fn range_lines(alloc: Global, of_ranges: &KeyRanges) -> Result<Items<Text>, NoMemory>
     ensures { IfOk result (λ lines. lines ≡ spec.lines_of of_ranges.now) }
 {
-    let mut lines = Vec::new(alloc);
+    let mut lines = Vec::with_capacity(alloc, of_ranges.ranges.len())?;
     'each: for range in of_ranges.ranges.as_slice() {
         lines.push(line_of(alloc, range)?)?;
     }

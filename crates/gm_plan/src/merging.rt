@@ -13,8 +13,9 @@ use std::alloc::Global;
 pub(crate) fn value_ranges(alloc: Global, list: ByteRangeItems) -> Result<RangeList, NoMemory>
     ensures { IfOk result (λ ranges. ranges ≡ value_ranges list) }
 {
-    let mut ranges = Vec::new(alloc);
-    'merged: for range in merged(alloc, list.into_vec())? {
+    let all = merged(alloc, list.into_vec())?;
+    let mut ranges = Vec::with_capacity(alloc, all.len())?;
+    'merged: for range in all {
         ranges.push(Range::Values(range.low, range.high))?;
     }
     Ok(Items::from_vec(ranges))
@@ -25,7 +26,7 @@ fn merged(alloc: Global, list: Vec<ByteRange>) -> Result<Vec<ByteRange>, NoMemor
 {
     let mut all = Vec::new(alloc);
     'list: for range in list {
-        all = merged_in(alloc, range, &all)?;
+        all = merged_in(alloc, range, all)?;
     }
     Ok(all)
 }
@@ -34,34 +35,17 @@ fn merged(alloc: Global, list: Vec<ByteRange>) -> Result<Vec<ByteRange>, NoMemor
 fn merged_in(
     alloc: Global,
     range: ByteRange,
-    ranges: &[ByteRange],
+    ranges: Vec<ByteRange>,
 ) -> Result<Vec<ByteRange>, NoMemory>
-    ensures { IfOk result (λ all. all.items ≡ spec.merged_in range ranges.now) }
+    ensures { IfOk result (λ all. all.items ≡ spec.merged_in range ranges.items) }
 {
     let mut all = Vec::with_capacity(alloc, ranges.len())?;
     let mut kept = Some(range);
     'each: for next in ranges {
-        kept = put_one(&mut all, kept, copy_of(alloc, next)?)?;
+        kept = put_one(&mut all, kept, next)?;
     }
     let whole = closed(all, kept)?;
     Ok(whole)
-}
-
-fn copy_of(alloc: Global, range: &ByteRange) -> Result<ByteRange, NoMemory>
-    ensures { IfOk result (λ copy. copy ≡ range.now) }
-{
-    let low = range.low.copy(alloc)?;
-    let high = copy_of_end(alloc, &range.high)?;
-    Ok(ByteRange { low, high })
-}
-
-fn copy_of_end(alloc: Global, end: &Option<Bytes>) -> Result<Option<Bytes>, NoMemory>
-    ensures { IfOk result (λ copy. copy ≡ end.now) }
-{
-    match end {
-        Some(bytes) => Ok(Some(bytes.copy(alloc)?)),
-        None => Ok(None),
-    }
 }
 
 // With the range that is still kept back at the end.

@@ -108,7 +108,7 @@ fn counted<T: Tree<2>, L: Ledger>(
 fn code_ranges(alloc: Global, found: &Split) -> Result<Vec<Range>, NoMemory>
     ensures { IfOk result (λ list. list.items ≡ map (code_range found.now.level) found.now.runs) }
 {
-    let mut list = Vec::new(alloc);
+    let mut list = Vec::with_capacity(alloc, found.runs.count())?;
     'runs: for i in 0..found.runs.count() {
         let (low, high) = found.runs.at(i);
         list.push(Range::Codes(low, high, found.level))?;

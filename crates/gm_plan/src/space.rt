@@ -18,7 +18,7 @@ use gm_bounds::{Interval, Range, RangeList};
 use gm_calendar::Period;
 use gm_geom::Box2;
 use gm_split::{Split, split};
-use gm_trees::{Node3, Steps, Tree, Window, XzTree, ZTree};
+use gm_trees::{Steps, Tree, Window, XzTree, ZTree};
 use gm_types::FeatureType;
 use std::alloc::Global;
 use std::marker::Brand;
@@ -250,25 +250,11 @@ fn are_same(one: &[Window], other: &[Window]) -> bool
         return false;
     }
     'windows: for i in 0..one.len() {
-        if !is_same(one[i], other[i]) {
+        if one[i] != other[i] {
             return false;
         }
     }
     true
-}
-
-#[tactic(auto, using(crate::proofs::Signed::same_window))]
-fn is_same(one: Window, other: Window) -> bool
-    ensures { IsTrue result → one ≡ other }
-{
-    is_same_cell(one.low, other.low) && is_same_cell(one.high, other.high)
-}
-
-#[tactic(auto, using(crate::proofs::Signed::same_cells))]
-fn is_same_cell(one: Node3, other: Node3) -> bool
-    ensures { IsTrue result → one ≡ other }
-{
-    one.x == other.x && one.y == other.y && one.t == other.t
 }
 
 // Adds the runs that were found, as ranges of a bin.

@@ -15,7 +15,7 @@ use std::alloc::Global;
 
 /// The spans of the keys of ranges, by shard and then in the order of the ranges. Whatever ranges
 /// are given, they are read as those of this index.
-#[tactic(auto, using(crate::proofs::Signed::flat_next))]
+#[tactic(auto, using(crate::proofs::FlatRanges::flat_next))]
 pub fn byte_ranges(
     alloc: Global,
     of: &FeatureType,

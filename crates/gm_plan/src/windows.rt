@@ -6,7 +6,7 @@ ghost use Rattle.gm_calendar.specs.Period.{last_of, longest_of};
 ghost use Rattle.gm_plan.specs.Bins.{meets_bin};
 ghost use Rattle.gm_plan.specs.Windows as spec;
 
-use crate::bins::{end_in, meets_bin, offset_in, start_in};
+use crate::bins::{meets_bin, offset_in, part_in};
 use gm_base::NoMemory;
 use gm_bounds::Interval;
 use gm_calendar::{Period, span_of};
@@ -102,8 +102,9 @@ fn window_in(period: Period, bits: u32, bin_number: u16, extent: Box2, interval:
     requires few { bits ≤ 31 }
     ensures { result ≡ spec.window_in period bits bin_number extent interval }
 {
-    let first = offset_in(period, bin_number, start_in(period, bin_number, interval));
-    let last = offset_in(period, bin_number, end_in(period, bin_number, interval));
+    let (start, end) = part_in(period, bin_number, interval);
+    let first = offset_in(period, bin_number, start);
+    let last = offset_in(period, bin_number, end);
     let low = Node3 {
         x: longitude_cell(extent.low.x, bits),
         y: latitude_cell(extent.low.y, bits),

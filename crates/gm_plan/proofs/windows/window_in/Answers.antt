@@ -10,9 +10,9 @@ use Rattle.gm_plan.proofs.windows.window_in.Goals as goal
 
 pub offset_in-last-requires-clause-lies : goal.offset_in-last-requires-clause-lies
 offset_in-last-requires-clause-lies c =
+    let fits : SFits w64 c.part_in-start.result.1 = search rules in
     subst (λ z. LiesIn c.args.period z c.args.bin_number)
-    (sym (to_z-of_z w64 c.end_in.result (record { sfits = c.end_in.type_inv })
-    ∙ c.end_in.ensures))
+    (sym (to_z-of_z w64 c.part_in-start.result.1 fits ∙ c.part_in-start.ensures.end))
     (end_lies c.args.period c.args.bin_number c.args.interval c.requires.met)
 
 pub returns : goal.returns
@@ -21,6 +21,8 @@ returns c =
     let b : SFits w32 c.args.extent.low.y = search rules in
     let d : SFits w32 c.args.extent.high.x = search rules in
     let e : SFits w32 c.args.extent.high.y = search rules in
+    let from : SFits w64 c.part_in-start.result.0 = search rules in
+    let to : SFits w64 c.part_in-start.result.1 = search rules in
     let p = c.longitude_cell.ensures
     ∙ ap (longitude_cell c.args.bits) (to_z-of_z w32 c.args.extent.low.x a) in
     let q = c.latitude_cell.ensures
@@ -33,14 +35,12 @@ returns c =
     ∙ ap (time_cell c.args.period c.args.bits)
     (c.offset_in-first.ensures.offset
     ∙ ap (offset_in c.args.period c.args.bin_number)
-    (to_z-of_z w64 c.start_in.result (record { sfits = c.start_in.type_inv })
-    ∙ c.start_in.ensures)) in
+    (to_z-of_z w64 c.part_in-start.result.0 from ∙ c.part_in-start.ensures.start)) in
     let v = c.time_cell-2.ensures
     ∙ ap (time_cell c.args.period c.args.bits)
     (c.offset_in-last.ensures.offset
     ∙ ap (offset_in c.args.period c.args.bin_number)
-    (to_z-of_z w64 c.end_in.result (record { sfits = c.end_in.type_inv })
-    ∙ c.end_in.ensures)) in
+    (to_z-of_z w64 c.part_in-start.result.1 to ∙ c.part_in-start.ensures.end)) in
     λ i. record {
       low = record { x = p i; y = q i; t = u i };
       high = record { x = r i; y = s i; t = v i };
