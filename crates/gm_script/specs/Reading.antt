@@ -1,6 +1,7 @@
 -- Which order a line is, for the types that there are, or why it is refused.
 use Rattle.std.specs.Prelude.{◌≡◌, ℕ, ◌+◌, ◌||◌, ◌&&◌, nat_lt, not, if◌then◌else◌, List, length}
-use Rattle.std.specs.Prelude.{codes, slice_get, Option, Some, None, is_some, option_map, option_and_then}
+use Rattle.std.specs.Prelude.{codes, slice_get, Option, Some, None, is_some}
+use Rattle.std.specs.Prelude.{option_map, option_and_then}
 use Rattle.std.specs.Prelude.{Result, Ok, Err}
 use Rattle.std.specs.Str.{is_utf8}
 use Rattle.gm_script.specs.Suits.{most_types}
