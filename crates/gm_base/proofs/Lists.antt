@@ -1,9 +1,10 @@
 -- Lemmas on lists that proofs of several crates need.
 use Rattle.std.proofs.Common.{◌≡◌, ◌<◌, ℕ, zero, suc, ◌+◌, ◌-◌, Bool, true, false, ◌&&◌, ◌||◌, cond}
 use Rattle.std.proofs.Common.{List, [], ◌∷◌, ◌++◌, length, map, take, drop, take_all, length-drop}
-use Rattle.std.proofs.Common.{None, refl, ap, ◌∙◌, arith}
+use Rattle.std.proofs.Common.{None, append_assoc, refl, ap, ◌∙◌, arith}
 use Rattle.std.specs.Prelude.{slice_get}
 use Rattle.std.specs.List.{AllByRecursion, list_all, list_any, prefix_len}
+use Rattle.gm_base.specs.Text.{BeginsWith}
 
 pub all_append : {X : Type 0} (P : X → Type 0) (xs ys : List X) → AllByRecursion P xs
     → AllByRecursion P ys → AllByRecursion P (xs ++ ys)
@@ -61,3 +62,14 @@ pub within_list : {A : Type 0} (xs : List A) (n : ℕ) → (slice_get xs n ≡ N
 within_list [] n some = absurd (some refl)
 within_list (x ∷ xs) zero some = omega arith
 within_list (x ∷ xs) (suc n) some = let rest = within_list xs n some in omega arith
+
+-- what begins with a text that begins with a text
+pub begins_further : (start middle end : List ℕ) → BeginsWith middle start → BeginsWith end middle
+    → BeginsWith end start
+begins_further start middle end a b =
+    (a.0 ++ b.0, b.1 ∙ ap (λ t. t ++ b.0) a.1 ∙ append_assoc start a.0 b.0)
+
+-- what is laid behind a text that begins with a text
+pub laid_behind : (start middle end piece : List ℕ) → BeginsWith middle start
+    → end ≡ middle ++ piece → BeginsWith end start
+laid_behind start middle end piece a laid = begins_further start middle end a (piece, laid)

@@ -97,4 +97,4 @@ is_blank byte = byte == space || byte == tab
 
 -- a number with one more digit behind it
 abbrev pub next_digit : ℕ → ℕ → ℕ
-next_digit number byte = number * 10 + (byte - digit_zero)
+next_digit so_far byte = so_far * 10 + (byte - digit_zero)

@@ -6,3 +6,4 @@ pub mod Hash
 pub mod Identifier
 pub mod Spans
 pub mod Tally
+pub mod Text

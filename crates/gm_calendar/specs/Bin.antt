@@ -26,27 +26,27 @@ month_at (suc n) = next_month (month_at n)
 
 -- the days of a bin
 abbrev pub days_of_bin : Period → ℕ → ℕ
-days_of_bin Day number = 1
-days_of_bin Week number = 7
-days_of_bin Month number = days_of_month (month_at number).year (month_at number).month
-days_of_bin Year number = days_of_year (1970 + number)
+days_of_bin Day bin_number = 1
+days_of_bin Week bin_number = 7
+days_of_bin Month bin_number = days_of_month (month_at bin_number).year (month_at bin_number).month
+days_of_bin Year bin_number = days_of_year (1970 + bin_number)
 
 -- the day on which a bin starts: the first is day 0, 1970-01-01, and the next comes the days of
 -- this bin later
 unfoldable pub bin_start : Period → ℕ → ℕ
 bin_start period zero = 0
-bin_start period (suc number) = bin_start period number + days_of_bin period number
+bin_start period (suc bin_number) = bin_start period bin_number + days_of_bin period bin_number
 
 -- the first millisecond of a bin, and its last: the one before the next bin's first
 abbrev pub first_ms : Period → ℕ → ℤ
-first_ms period number = pos (bin_start period number * day_ms)
+first_ms period bin_number = pos (bin_start period bin_number * day_ms)
 
 abbrev pub last_ms : Period → ℕ → ℤ
-last_ms period number = first_ms period (number + 1) -ℤ pos 1
+last_ms period bin_number = first_ms period (bin_number + 1) -ℤ pos 1
 
 -- the milliseconds from the start of the bin to the instant
 abbrev pub ms_since : Period → ℕ → ℤ → ℕ
-ms_since period number at = unsigned_abs (at -ℤ first_ms period number)
+ms_since period bin_number at = unsigned_abs (at -ℤ first_ms period bin_number)
 
 -- the bin starts at or before the instant and the next one after it, and the offset is the time
 -- since the start, in whole units
@@ -62,7 +62,7 @@ HasNoBin period at = (at <ℤ pos 0) ⊎ (first_ms period (last_of period + 1) �
 
 -- the milliseconds of a bin
 abbrev pub ms_of_bin : Period → ℕ → ℕ
-ms_of_bin period number = days_of_bin period number * day_ms
+ms_of_bin period bin_number = days_of_bin period bin_number * day_ms
 
 abbrev pub bin_from : Period → Option (ℕ × ℕ) → Option Bin
 bin_from period None = None
@@ -75,11 +75,11 @@ bin_at period (pos ms) = bin_from period (span_at (ms_of_bin period) (last_of pe
 
 -- the instant is in the bin with that number
 abbrev pub HasNumber : Period → ℤ → ℕ → Type 0
-HasNumber period at number = IsSomeAnd (bin_at period at) (λ bin. bin.number ≡ number)
+HasNumber period at bin_number = IsSomeAnd (bin_at period at) (λ bin. bin.number ≡ bin_number)
 
 -- it lies from the first millisecond of a bin to the last
 abbrev pub LiesIn : Period → ℤ → ℕ → Type 0
-LiesIn period at number = (first_ms period number ≤ℤ at) × (at ≤ℤ last_ms period number)
+LiesIn period at bin_number = (first_ms period bin_number ≤ℤ at) × (at ≤ℤ last_ms period bin_number)
 
 -- an earlier bin, or the same with no greater offset
 abbrev pub IsNotAfter : Bin → Bin → Type 0

@@ -77,7 +77,7 @@ second_of text = if length text == 2 then second_at (number_of text) else None
 
 -- the digit in that place, and 0 where there is none
 abbrev pub digit_at : List ℕ → ℕ → ℕ
-digit_at digits place = slice_index_or digits place digit_zero - digit_zero
+digit_at digits index = slice_index_or digits index digit_zero - digit_zero
 
 -- the one to nine digits of a fraction of a second: those past the third count for nothing
 abbrev pub fraction_of : List ℕ → Option ℤ

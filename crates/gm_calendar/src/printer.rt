@@ -4,6 +4,7 @@ ghost use Rattle.std.specs.Prelude.{take, ℤ, true, Some, IfOk, OnOk};
 ghost use Rattle.std.specs.List.{list_all};
 ghost use Rattle.std.specs.String.{string_bytes};
 ghost use Rattle.gm_base.specs.Ascii.{digit_zero};
+ghost use Rattle.gm_base.specs.Text.{BeginsWith};
 ghost use Rattle.gm_calendar.specs.Calendar.{days_of_year, span_at};
 ghost use Rattle.gm_calendar.specs.Instant.{day_ms, IsInstant};
 ghost use Rattle.gm_calendar.specs.Parts.{SpellsInstant};
@@ -32,7 +33,8 @@ pub fn print_instant(alloc: Global, at: Instant) -> Result<Text, NoMemory>
 
 /// Appends the text that `print_instant` gives. Where memory runs out, part of it may be there.
 pub fn append_instant(text: &mut String, at: Instant) -> Result<(), NoMemory>
-    ensures { OnOk result (string_bytes text.new ≡ string_bytes text.old ++ instant_text at) }
+    ensures text { OnOk result (string_bytes text.new ≡ string_bytes text.old ++ instant_text at) }
+    ensures kept { BeginsWith (string_bytes text.new) (string_bytes text.old) }
 {
     let since = ms_from_0000(at);
     append_day(text, since / DAY_MS)?;
@@ -54,8 +56,9 @@ fn ms_from_0000(at: Instant) -> u64
 // The date of a day that is counted from 0000-01-01.
 fn append_day(text: &mut String, day: u64) -> Result<(), NoMemory>
     requires { day < 3_652_425 }
-    ensures { IfOk result (λ _. string_bytes text.new
+    ensures text { IfOk result (λ _. string_bytes text.new
         ≡ string_bytes text.old ++ day_text (span_at days_of_year 10_000 0 day)) }
+    ensures kept { BeginsWith (string_bytes text.new) (string_bytes text.old) }
 {
     let date = date_from_0000(day);
     append_date(
@@ -71,8 +74,9 @@ fn append_date(text: &mut String, year: u64, month: u64, day: u64) -> Result<(),
     requires year { year < 10_000 }
     requires month { month < 100 }
     requires day { day < 100 }
-    ensures { IfOk result (λ _. string_bytes text.new
+    ensures text { IfOk result (λ _. string_bytes text.new
         ≡ string_bytes text.old ++ date_text year month day) }
+    ensures kept { BeginsWith (string_bytes text.new) (string_bytes text.old) }
 {
     append_two(text, year / 100)?;
     append_two(text, year % 100)?;
@@ -85,7 +89,9 @@ fn append_date(text: &mut String, year: u64, month: u64, day: u64) -> Result<(),
 #[tactic(auto, unfolding(crate::specs::Spelling::time_text))]
 fn append_time(text: &mut String, ms: u64) -> Result<(), NoMemory>
     requires { ms < 86_400_000 }
-    ensures { IfOk result (λ _. string_bytes text.new ≡ string_bytes text.old ++ time_text ms) }
+    ensures text { IfOk result (λ _. string_bytes text.new
+        ≡ string_bytes text.old ++ time_text ms) }
+    ensures kept { BeginsWith (string_bytes text.new) (string_bytes text.old) }
 {
     append_two(text, ms / 3_600_000)?;
     text.push(':')?;
@@ -97,7 +103,9 @@ fn append_time(text: &mut String, ms: u64) -> Result<(), NoMemory>
 #[tactic(auto, unfolding(crate::specs::Spelling::second_text))]
 fn append_second(text: &mut String, ms: u64) -> Result<(), NoMemory>
     requires { ms < 60_000 }
-    ensures { IfOk result (λ _. string_bytes text.new ≡ string_bytes text.old ++ second_text ms) }
+    ensures text { IfOk result (λ _. string_bytes text.new
+        ≡ string_bytes text.old ++ second_text ms) }
+    ensures kept { BeginsWith (string_bytes text.new) (string_bytes text.old) }
 {
     append_two(text, ms / 1_000)?;
     text.push('.')?;
@@ -107,8 +115,9 @@ fn append_second(text: &mut String, ms: u64) -> Result<(), NoMemory>
 
 fn append_two(text: &mut String, number: u64) -> Result<(), NoMemory>
     requires { number < 100 }
-    ensures { IfOk result (λ _. string_bytes text.new
+    ensures text { IfOk result (λ _. string_bytes text.new
         ≡ string_bytes text.old ++ two_digits number) }
+    ensures kept { BeginsWith (string_bytes text.new) (string_bytes text.old) }
 {
     append_digit(text, number / 10)?;
     append_digit(text, number % 10)
@@ -116,8 +125,9 @@ fn append_two(text: &mut String, number: u64) -> Result<(), NoMemory>
 
 fn append_digit(text: &mut String, digit: u64) -> Result<(), NoMemory>
     requires { digit < 10 }
-    ensures { IfOk result (λ _. string_bytes text.new
+    ensures text { IfOk result (λ _. string_bytes text.new
         ≡ string_bytes text.old ++ (digit_zero + digit) ∷ []) }
+    ensures kept { BeginsWith (string_bytes text.new) (string_bytes text.old) }
 {
     text.push(char::from(b'0' + digit as u8))?;
     Ok(())

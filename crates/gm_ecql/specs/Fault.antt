@@ -33,14 +33,14 @@ pub record SpellsFilter (s : Specification) (text : List ℕ) (t : Tree) : Type 
   pub means : t ≡ judged.meaning
 
 -- The text spells the change to this attribute, to this value, by the filter of this tree.
-pub record SpellsChange (s : Specification) (text : List ℕ) (place : ℕ) (value : Value)
+pub record SpellsChange (s : Specification) (text : List ℕ) (attribute : ℕ) (value : Value)
     (t : Tree) : Type 0 where
   pub tokens : List (Bool × Seen)
   pub judged : JudgedChange
   pub lexed : SpellsTokens text tokens
   pub parsed : IsChangeOf s tokens judged
   pub sound : judged.faults ≡ faultless
-  pub place_means : place ≡ judged.place
+  pub place_means : attribute ≡ judged.place
   pub value_means : value ≡ judged.holds
   pub filter_means : t ≡ judged.meaning
 

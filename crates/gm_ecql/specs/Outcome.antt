@@ -102,7 +102,7 @@ KeepsLimits text =
     (ts : List (Bool × Seen)) → SpellsTokens text ts → are_within (unspaced ts) ≡ true
 
 -- an attribute of the type may have the value
-pub record MayHold (s : Specification) (place : ℕ) (v : Value) : Type 0 where
+pub record MayHold (s : Specification) (attribute : ℕ) (v : Value) : Type 0 where
   pub kind : Kind
-  pub there : kind_at s place ≡ Some kind
+  pub there : kind_at s attribute ≡ Some kind
   pub fits : value_fits kind v ≡ true

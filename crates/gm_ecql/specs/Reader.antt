@@ -114,9 +114,9 @@ separator_at ts =
 
 abbrev pub number_then_comma : Reader (List ℕ)
 number_then_comma ts = do
-  number ← number_at ts
-  rest ← after_symbol symbol.Comma number.1
-  Some (number.0, rest)
+  coordinate ← number_at ts
+  rest ← after_symbol symbol.Comma coordinate.1
+  Some (coordinate.0, rest)
 
 abbrev pub name_then_comma : Reader (List ℕ)
 name_then_comma ts = do

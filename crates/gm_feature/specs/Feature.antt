@@ -15,10 +15,10 @@ use Rattle.gm_feature.specs.Value.{value_fits}
 
 -- the value of the attribute with that number, and null where there is none
 abbrev pub value_in : List Value → ℕ → Value
-value_in values number = get_or values number value.Null
+value_in values attribute = get_or values attribute value.Null
 
 abbrev pub value_at : Feature → ℕ → Value
-value_at feature number = value_in feature.values number
+value_at feature attribute = value_in feature.values attribute
 
 -- as many values as kinds, each one that its kind may hold
 abbrev pub values_fit : List Kind → List Value → Bool
@@ -34,7 +34,7 @@ has_bin period _ = true
 -- the default date, where there is one, is null or has a bin
 abbrev pub date_has_bin : Period → Option ℕ → List Value → Bool
 date_has_bin period None values = true
-date_has_bin period (Some number) values = has_bin period (value_in values number)
+date_has_bin period (Some attribute) values = has_bin period (value_in values attribute)
 
 -- an index over time is enabled
 abbrev pub has_time_index : Specification → Bool

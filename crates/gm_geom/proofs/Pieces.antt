@@ -3,13 +3,6 @@ use Rattle.std.proofs.Common.{◌≡◌, ℕ, ◌+◌, ◌/◌, ◌%◌, ◌^◌
 use Rattle.std.proofs.Common.{◌∙◌, append_assoc}
 use Rattle.std.specs.Fmt.{decimal}
 use Rattle.std.proofs.lemmas.Fmt.{decimal_digit, decimal_step}
-use Rattle.gm_geom.specs.Number.{BeginsWith}
-
--- what begins with a text that begins with a text
-pub begins_further : (start middle end : List ℕ) → BeginsWith middle start → BeginsWith end middle
-    → BeginsWith end start
-begins_further start middle end a b =
-    (a.0 ++ b.0, b.1 ∙ ap (λ t. t ++ b.0) a.1 ∙ append_assoc start a.0 b.0)
 
 -- the last digit behind the others
 pub last_digit : (start middle end : List ℕ) (n : ℕ) → 10 ≤ n → n < 2 ^ 64

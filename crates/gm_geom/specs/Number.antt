@@ -214,10 +214,6 @@ abbrev pub fixed_text : ℤ → List ℕ
 fixed_text z =
     minus_text z ++ (decimal (unsigned_abs z / degree) ++ fraction_text (unsigned_abs z % degree))
 
--- a text that begins with what stood there before
-abbrev pub BeginsWith : List ℕ → List ℕ → Type 0
-BeginsWith text front = (rest : List ℕ) × (text ≡ front ++ rest)
-
 -- the bytes that numbers are written with: digits, signs, the point and the e of an exponent
 abbrev pub is_number_byte : ℕ → Bool
 is_number_byte b =

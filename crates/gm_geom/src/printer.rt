@@ -3,7 +3,8 @@ ghost use Rattle.std.specs.Prelude.{◌≡◌, ◌<◌, ◌^◌, ◌++◌, ◌+�
 ghost use Rattle.std.specs.String.{string_bytes};
 ghost use Rattle.std.specs.Fmt.{decimal};
 ghost use Rattle.gm_base.specs.Ascii.{digit_zero};
-ghost use Rattle.gm_geom.specs.Number.{BeginsWith, fixed_text, fixed_of, fraction_text};
+ghost use Rattle.gm_base.specs.Text.{BeginsWith};
+ghost use Rattle.gm_geom.specs.Number.{fixed_text, fixed_of, fraction_text};
 ghost use Rattle.gm_geom.specs.Number.{minus_text, places_of};
 
 use gm_base::{NoMemory, Text};

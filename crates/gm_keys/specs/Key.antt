@@ -23,11 +23,11 @@ index_number Z2 = 1
 index_number Z3 = 2
 index_number Xz2 = 3
 index_number Xz3 = 4
-index_number (Attr number) = 5
+index_number (Attr attribute) = 5
 
 -- that of an attribute, where the index has one
 abbrev pub attribute_number : IndexKind → List ℕ
-attribute_number (Attr number) = big_bytes 2 number
+attribute_number (Attr attribute) = big_bytes 2 attribute
 attribute_number _ = []
 
 -- the prefix of all keys of an index: the type's number, the index number, and the attribute's
@@ -55,15 +55,16 @@ bin_code_front prefix shard bin code = prefix ++ (shard ∷ (big_bytes 2 bin ++ 
 abbrev pub form_of : Value → Option (List ℕ)
 form_of value.Null = None
 form_of (value.Text text) = Some (text_bytes text)
-form_of (value.Integer number) = Some (int_bytes number)
-form_of (value.Long number) = Some (long_bytes number)
+form_of (value.Integer whole) = Some (int_bytes whole)
+form_of (value.Long whole) = Some (long_bytes whole)
 form_of (value.Boolean truth) = Some (bool_bytes truth)
 form_of (value.Date at) = Some (date_bytes at)
 form_of (value.Geo geometry) = None
 
 -- the key in the index of an attribute, by the value of the attribute
 abbrev pub value_key : Specification → ℕ → List ℕ → Value → Option (List ℕ)
-value_key t number id v = option_map (λ form. (prefix_of t (Attr number) ++ form) ++ id) (form_of v)
+value_key t attribute id v =
+    option_map (λ form. (prefix_of t (Attr attribute) ++ form) ++ id) (form_of v)
 
 -- what stands in a key before the identifier
 unfoldable pub front_of : Specification → IndexKind → Feature → Option (List ℕ)
@@ -85,8 +86,8 @@ front_of t Xz3 feature =
     (λ box. option_map
     (λ bin. bin_code_front (prefix_of t Xz3) (shard_of t feature.id) bin.number
     (xz3_code (period_of t) (precision_of t) box bin.offset)) (bin_in t feature)) (box_in t feature)
-front_of t (Attr number) feature =
-    option_map (λ form. prefix_of t (Attr number) ++ form) (form_of (value_at feature number))
+front_of t (Attr attribute) feature =
+    option_map (λ form. prefix_of t (Attr attribute) ++ form) (form_of (value_at feature attribute))
 
 -- the key in an index, or none where a value that the index needs is null
 abbrev pub key_of : Specification → IndexKind → Feature → Option (List ℕ)

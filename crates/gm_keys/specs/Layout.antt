@@ -16,8 +16,8 @@ use Rattle.gm_keys.specs.Key.{prefix_of}
 -- the lexicoded form of some value of a kind
 abbrev pub IsForm : Option Kind → List ℕ → Type 0
 IsForm (Some kind.Text) form = (text : List ℕ) × IsLexicalText text × (form ≡ text_bytes text)
-IsForm (Some kind.Integer) form = (number : ℤ) × FitsSigned w32 number × (form ≡ int_bytes number)
-IsForm (Some kind.Long) form = (number : ℤ) × FitsSigned w64 number × (form ≡ long_bytes number)
+IsForm (Some kind.Integer) form = (whole : ℤ) × FitsSigned w32 whole × (form ≡ int_bytes whole)
+IsForm (Some kind.Long) form = (whole : ℤ) × FitsSigned w64 whole × (form ≡ long_bytes whole)
 IsForm (Some kind.Boolean) form = (truth : Bool) × (form ≡ bool_bytes truth)
 IsForm (Some kind.Date) form = (at : ℤ) × IsInstant at × (form ≡ date_bytes at)
 IsForm _ form = ⊥
@@ -34,7 +34,7 @@ IsMiddle t Z2 middle = length middle ≡ 9
 IsMiddle t Z3 middle = length middle ≡ 11
 IsMiddle t Xz2 middle = length middle ≡ 9
 IsMiddle t Xz3 middle = length middle ≡ 11
-IsMiddle t (Attr number) middle = IsForm (kind_at t number) middle
+IsMiddle t (Attr attribute) middle = IsForm (kind_at t attribute) middle
 
 -- the key is laid out as one of the index, with this middle and this identifier
 pub record IsLaidOut (t : Specification) (index : IndexKind) (key middle id : List ℕ) : Type 0 where

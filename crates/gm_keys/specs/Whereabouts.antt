@@ -30,11 +30,11 @@ instant_of _ = None
 -- the default geometry and the default date of a feature, where it has them
 abbrev pub geometry_in : Specification → Feature → Option Geometry
 geometry_in t feature =
-    option_and_then (λ number. geometry_of (value_at feature number)) (default_geometry_of t)
+    option_and_then (λ attribute. geometry_of (value_at feature attribute)) (default_geometry_of t)
 
 abbrev pub instant_in : Specification → Feature → Option ℤ
 instant_in t feature =
-    option_and_then (λ number. instant_of (value_at feature number)) (default_date_of t)
+    option_and_then (λ attribute. instant_of (value_at feature attribute)) (default_date_of t)
 
 abbrev pub point_of : Geometry → Option Point
 point_of (geo.Point point) = Some point
@@ -62,7 +62,7 @@ needs_of t Z2 = option_to_list (default_geometry_of t)
 needs_of t Z3 = option_to_list (default_geometry_of t) ++ option_to_list (default_date_of t)
 needs_of t Xz2 = option_to_list (default_geometry_of t)
 needs_of t Xz3 = option_to_list (default_geometry_of t) ++ option_to_list (default_date_of t)
-needs_of t (Attr number) = number ∷ []
+needs_of t (Attr attribute) = attribute ∷ []
 
 abbrev pub is_null : Value → Bool
 is_null value.Null = true
@@ -71,4 +71,4 @@ is_null _ = false
 -- a value that the index needs is null
 abbrev pub lacks_value : Specification → IndexKind → Feature → Bool
 lacks_value t kind feature =
-    list_any (λ number. is_null (value_at feature number)) (needs_of t kind)
+    list_any (λ attribute. is_null (value_at feature attribute)) (needs_of t kind)

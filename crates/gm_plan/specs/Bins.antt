@@ -17,17 +17,17 @@ not_after (Some high) at = int_min high at
 
 -- the first millisecond of an interval in a bin, and its last
 abbrev pub start_in : Period → ℕ → Interval → ℤ
-start_in period number i = not_before i.low (first_ms period number)
+start_in period bin_number i = not_before i.low (first_ms period bin_number)
 
 abbrev pub end_in : Period → ℕ → Interval → ℤ
-end_in period number i = not_after i.high (last_ms period number)
+end_in period bin_number i = not_after i.high (last_ms period bin_number)
 
 -- the interval meets the bin: some millisecond lies in both
 abbrev pub meets_bin : Period → ℕ → Interval → Bool
-meets_bin period number i = int_le (start_in period number i) (end_in period number i)
+meets_bin period bin_number i = int_le (start_in period bin_number i) (end_in period bin_number i)
 
 abbrev pub is_met : Period → List Interval → ℕ → Bool
-is_met period intervals number = list_any (meets_bin period number) intervals
+is_met period intervals bin_number = list_any (meets_bin period bin_number) intervals
 
 -- the bins that an interval meets, each once, the first first
 unfoldable pub bins_of : Period → List Interval → List ℕ
@@ -35,4 +35,4 @@ bins_of period intervals = filter (is_met period intervals) (range_with_len 0 (l
 
 -- the offset in a bin of a millisecond: the time since the bin's start, in whole units
 abbrev pub offset_in : Period → ℕ → ℤ → ℕ
-offset_in period number at = ms_since period number at / unit_of period
+offset_in period bin_number at = ms_since period bin_number at / unit_of period

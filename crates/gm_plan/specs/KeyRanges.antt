@@ -40,7 +40,7 @@ abbrev pub code_range : ℕ → ℕ × ℕ → Range
 code_range level run = Codes run.0 run.1 level
 
 abbrev pub bin_range : ℕ → ℕ → ℕ × ℕ → Range
-bin_range number level run = InBin number run.0 run.1 level
+bin_range bin_number level run = InBin bin_number run.0 run.1 level
 
 -- the explained runs of windows in the plane
 unfoldable pub plane_ranges : Shape → List Window → ℕ → List Range
@@ -49,8 +49,8 @@ plane_ranges s windows target =
 
 -- those of windows in a bin
 unfoldable pub bin_ranges : Shape → ℕ → List Window → ℕ → List Range
-bin_ranges s number windows target =
-    map (bin_range number (stop_level 3 s windows target)) (explained_runs 3 s windows target)
+bin_ranges s bin_number windows target =
+    map (bin_range bin_number (stop_level 3 s windows target)) (explained_runs 3 s windows target)
 
 -- from the first of the bins to the last
 abbrev pub span_of_bins : List ℕ → Range
@@ -61,7 +61,8 @@ span_of_bins bins = Span (slice_index bins 0) (slice_index bins (length bins - 1
 unfoldable pub ranges_in_bins : Shape → (ℕ → List Window) → List ℕ → ℕ → List Range
 ranges_in_bins s windows bins target =
     if nat_lt target (length bins) then span_of_bins bins ∷ []
-    else flat_map (λ number. bin_ranges s number (windows number) (target / length bins)) bins
+    else flat_map
+    (λ bin_number. bin_ranges s bin_number (windows bin_number) (target / length bins)) bins
 
 -- the same of boxes and intervals: with no box there is no range
 abbrev pub space_ranges : Shape → Period → ℕ → List Box2 → List Interval → ℕ → List Range
@@ -103,5 +104,5 @@ key_ranges s Xz3 t target =
     in_shards (shards_of s)
     (space_ranges (xz_shape 3 (precision_of s)) (period_of s) (precision_of s)
     (list_of (boxes_of s t)) (list_of (intervals_of s t)) target)
-key_ranges s (Attr number) t target =
-    in_shards 1 (value_ranges (list_of (byte_ranges_of s number t)))
+key_ranges s (Attr attribute) t target =
+    in_shards 1 (value_ranges (list_of (byte_ranges_of s attribute t)))

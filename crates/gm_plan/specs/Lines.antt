@@ -31,8 +31,8 @@ values_text low high = codes "range " ++ (low_text low ++ (codes " " ++ high_tex
 
 abbrev pub line_of_range : Range → List ℕ
 line_of_range (Codes low high level) = codes "run " ++ run_text low high level
-line_of_range (InBin number low high level) =
-    codes "run " ++ (decimal number ++ (codes " " ++ run_text low high level))
+line_of_range (InBin bin_number low high level) =
+    codes "run " ++ (decimal bin_number ++ (codes " " ++ run_text low high level))
 line_of_range (Span first last) = codes "span " ++ (decimal first ++ number_behind last)
 line_of_range (Values low high) = values_text low high
 line_of_range (OneId id) = codes "id " ++ id

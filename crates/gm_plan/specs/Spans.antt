@@ -33,8 +33,9 @@ value_end prefix (Some high) = prefix ++ high
 abbrev pub span_behind : List ℕ → ℕ → Range → List ℕ × List ℕ
 span_behind prefix shard (Codes low high level) =
     from_to (code_front prefix shard low) (code_front prefix shard high)
-span_behind prefix shard (InBin number low high level) =
-    from_to (bin_code_front prefix shard number low) (bin_code_front prefix shard number high)
+span_behind prefix shard (InBin bin_number low high level) =
+    from_to (bin_code_front prefix shard bin_number low)
+    (bin_code_front prefix shard bin_number high)
 span_behind prefix shard (Span first last) =
     from_to (bin_front prefix shard first) (bin_front prefix shard last)
 span_behind prefix shard (Values low high) = (prefix ++ low, value_end prefix high)

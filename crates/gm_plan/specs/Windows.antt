@@ -19,13 +19,15 @@ windows_of bits boxes = map (window_of bits) boxes
 
 -- the same from the interval's first millisecond in the bin to its last
 abbrev pub window_in : Period → ℕ → ℕ → Box2 → Interval → Window
-window_in period bits number b i = record {
-  low = cell_of (cells_at period bits b.low (offset_in period number (start_in period number i)));
-  high = cell_of (cells_at period bits b.high (offset_in period number (end_in period number i)));
+window_in period bits bin_number b i = record {
+  low = cell_of
+      (cells_at period bits b.low (offset_in period bin_number (start_in period bin_number i)));
+  high = cell_of
+      (cells_at period bits b.high (offset_in period bin_number (end_in period bin_number i)));
 }
 
 -- each box with each interval that meets the bin
 abbrev pub windows_in : Period → ℕ → List Box2 → List Interval → ℕ → List Window
-windows_in period bits boxes intervals number =
-    flat_map (λ b. map (window_in period bits number b)
-    (filter (meets_bin period number) intervals)) boxes
+windows_in period bits boxes intervals bin_number =
+    flat_map (λ b. map (window_in period bits bin_number b)
+    (filter (meets_bin period bin_number) intervals)) boxes

@@ -64,17 +64,18 @@ latitudes = 2 * latitude_limit + 1
 
 -- the feature with this number: a name, a number, a second of 2020 and a place, drawn in this order
 unfoldable pub put_line : ℕ → ℕ → List ℕ
-put_line number state =
-    codes "put gen g" ++ (decimal number ++ (codes ",n" ++ (decimal (drawn 100 (behind 1 state))
+put_line feature_number state =
+    codes "put gen g" ++ (decimal feature_number
+    ++ (codes ",n" ++ (decimal (drawn 100 (behind 1 state))
     ++ (codes "," ++ (decimal (drawn 1000 (behind 2 state))
     ++ (codes "," ++ (instant_text (second_of_2020 (drawn seconds_of_2020 (behind 3 state)))
     ++ place_text (drawn longitudes (behind 4 state)) (drawn latitudes (behind 5 state)))))))))
 
 -- so many features, the first with this number
 abbrev pub put_lines : ℕ → ℕ → ℕ → List ℕ
-put_lines zero number state = []
-put_lines (suc count) number state =
-    put_line number state ++ put_lines count (number + 1) (behind 5 state)
+put_lines zero feature_number state = []
+put_lines (suc count) feature_number state =
+    put_line feature_number state ++ put_lines count (feature_number + 1) (behind 5 state)
 
 abbrev pub first_line : List ℕ
 first_line = line (codes "create gen name:String:index=true,n:Integer,dtg:Date,*geom:Point")

@@ -17,9 +17,9 @@ use Rattle.gm_program.specs.Question.{answer, rows_examined}
 use Rattle.gm_program.specs.Step.{Outcome, planned, refused, is_target}
 
 -- the attribute in that place may take the value
-pub record MayTake (t : Specification) (place : ℕ) (value : Value) : Type 0 where
-  pub holds : MayHold t place value
-  pub dated : keeps_bins t place value ≡ true
+pub record MayTake (t : Specification) (attribute : ℕ) (value : Value) : Type 0 where
+  pub holds : MayHold t attribute value
+  pub dated : keeps_bins t attribute value ≡ true
 
 -- the answer, read by the parts of the plan
 pub record IsAnswer (s : State) (t : Specification) (a : Asked) (features : List Feature)

@@ -31,12 +31,13 @@ rows_examined t target rows (part ∷ parts) =
 
 -- the line of the part with this place, and those of its ranges
 abbrev pub part_lines : Specification → ℕ → ℕ → Chosen → List (List ℕ)
-part_lines t target place part =
+part_lines t target part_number part =
     let ranges = key_ranges t part.index part.wanted target in
-    part_text t place part.index part.cost ranges.shards (length ranges.ranges) ∷ lines_of ranges
+    part_text t part_number part.index part.cost ranges.shards (length ranges.ranges)
+    ∷ lines_of ranges
 
 -- those of the parts from a place on
 abbrev pub plan_lines : Specification → ℕ → ℕ → List Chosen → List (List ℕ)
-plan_lines t target place [] = []
-plan_lines t target place (part ∷ parts) =
-    part_lines t target place part ++ plan_lines t target (place + 1) parts
+plan_lines t target part_number [] = []
+plan_lines t target part_number (part ∷ parts) =
+    part_lines t target part_number part ++ plan_lines t target (part_number + 1) parts

@@ -143,22 +143,24 @@ remove_step n wanted s = asked_of (type_at n s) (plain n wanted) s (removed (pla
 
 -- a feature with another value in that place
 abbrev pub with_value : ℕ → Value → Feature → Feature
-with_value place value feature = record feature { values = slice_set feature.values place value }
+with_value attribute value feature =
+    record feature { values = slice_set feature.values attribute value }
 
 -- a feature that gives its place to that one
 abbrev pub given : ℕ → Value → Feature → Exchange
-given place value feature = record { old = feature; new = Some (with_value place value feature) }
+given attribute value feature =
+    record { old = feature; new = Some (with_value attribute value feature) }
 
 -- the features of which the filter is true have the value, unless there would be too many rows
 abbrev pub modified : ℕ → Value → Asked → State → Specification → List Chosen → Outcome
-modified place value a s t parts =
+modified attribute value a s t parts =
     let features = answer a.number a.wanted s in
-    changed s (exchanged_in a.number (map (given place value) features) s)
+    changed s (exchanged_in a.number (map (given attribute value) features) s)
     (reply.Modified (length features)) (rows_examined t a.target (rows_of s) parts)
 
 abbrev pub modify_step : ℕ → ℕ → Value → Tree → State → Outcome
-modify_step n place value wanted s =
-    asked_of (type_at n s) (plain n wanted) s (modified place value (plain n wanted) s)
+modify_step n attribute value wanted s =
+    asked_of (type_at n s) (plain n wanted) s (modified attribute value (plain n wanted) s)
 
 -- what the words of a run say to its commands is the setting; no command of this language asks it
 abbrev pub step : Setting → State → Order → Outcome
@@ -167,7 +169,7 @@ step setting s (create t) = create_step t s
 step setting s (put n feature) = put_step n feature s
 step setting s (delete n id) = delete_step n id s
 step setting s (remove n wanted) = remove_step n wanted s
-step setting s (modify n place value wanted) = modify_step n place value wanted s
+step setting s (modify n attribute value wanted) = modify_step n attribute value wanted s
 step setting s (query a) = query_step a s
 step setting s (count a) = count_step a s
 step setting s (explain a) = explain_step a s

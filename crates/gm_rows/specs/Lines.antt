@@ -8,8 +8,8 @@ use Rattle.gm_rows.specs.Printer.{has_line_feed}
 abbrev pub IsOnOneLine : Value → Type 0
 IsOnOneLine value.Null = ⊤
 IsOnOneLine (value.Text text) = has_line_feed text ≡ false
-IsOnOneLine (value.Integer number) = ⊤
-IsOnOneLine (value.Long number) = ⊤
+IsOnOneLine (value.Integer whole) = ⊤
+IsOnOneLine (value.Long whole) = ⊤
 IsOnOneLine (value.Boolean truth) = ⊤
 IsOnOneLine (value.Date at) = ⊤
 IsOnOneLine (value.Geo geometry) = ⊤

@@ -55,8 +55,8 @@ truth_text false = codes "false"
 abbrev pub field_of : Value → List ℕ
 field_of value.Null = []
 field_of (value.Text text) = text
-field_of (value.Integer number) = signed_decimal number
-field_of (value.Long number) = signed_decimal number
+field_of (value.Integer whole) = signed_decimal whole
+field_of (value.Long whole) = signed_decimal whole
 field_of (value.Boolean truth) = truth_text truth
 field_of (value.Date at) = instant_text at
 field_of (value.Geo geometry) = wkt.printed geometry

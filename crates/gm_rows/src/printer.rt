@@ -2,6 +2,7 @@
 ghost use Rattle.std.specs.Prelude.{◌≡◌, ◌++◌, map, Ok, IfOk, OnOk};
 ghost use Rattle.std.specs.Fmt.{signed_decimal};
 ghost use Rattle.std.specs.String.{string_bytes};
+ghost use Rattle.gm_base.specs.Text.{BeginsWith};
 ghost use Rattle.gm_feature.specs.Feature.{Fits};
 ghost use Rattle.gm_rows.specs.Lines.{AreOnOneLine};
 ghost use Rattle.gm_rows.specs.Reader.{row_of};
@@ -35,8 +36,9 @@ pub fn print_row(alloc: Global, of: &FeatureType, feature: &Feature) -> Result<T
 
 /// Appends the row that `print_row` gives. Where memory runs out, part of it may be there.
 pub fn append_row(alloc: Global, into: &mut String, feature: &Feature) -> Result<(), NoMemory>
-    ensures { IfOk result (λ _. string_bytes into.new
+    ensures text { IfOk result (λ _. string_bytes into.new
         ≡ string_bytes into.old ++ row_text feature.now) }
+    ensures kept { BeginsWith (string_bytes into.new) (string_bytes into.old) }
 {
     append_field(into, feature.id.as_str())?;
     append_values(alloc, into, feature.values.as_slice())
@@ -53,8 +55,9 @@ pub fn print_field(alloc: Global, value: &Value) -> Result<Text, NoMemory>
 
 // Each value behind a comma.
 fn append_values(alloc: Global, row: &mut String, values: &[Value]) -> Result<(), NoMemory>
-    ensures { IfOk result (λ _. string_bytes row.new
+    ensures text { IfOk result (λ _. string_bytes row.new
         ≡ string_bytes row.old ++ further (map field_of values.now)) }
+    ensures kept { BeginsWith (string_bytes row.new) (string_bytes row.old) }
 {
     'values: for value in values {
         row.push_str(",")?;
@@ -70,8 +73,9 @@ pub(crate) fn truth_text(truth: bool) -> &'static str
 }
 
 fn append_value(alloc: Global, row: &mut String, value: &Value) -> Result<(), NoMemory>
-    ensures { IfOk result (λ _. string_bytes row.new
+    ensures text { IfOk result (λ _. string_bytes row.new
         ≡ string_bytes row.old ++ printed (field_of value.now)) }
+    ensures kept { BeginsWith (string_bytes row.new) (string_bytes row.old) }
 {
     match value {
         Value::Null => append_field(row, ""),
@@ -88,15 +92,17 @@ fn append_value(alloc: Global, row: &mut String, value: &Value) -> Result<(), No
 }
 
 pub(crate) fn append_integer(row: &mut String, number: i32) -> Result<(), NoMemory>
-    ensures { OnOk result (string_bytes row.new
+    ensures text { OnOk result (string_bytes row.new
         ≡ string_bytes row.old ++ printed (signed_decimal number)) }
+    ensures kept { BeginsWith (string_bytes row.new) (string_bytes row.old) }
 {
     append_field(row, Buffer::new().format(number))
 }
 
 pub(crate) fn append_long(row: &mut String, number: i64) -> Result<(), NoMemory>
-    ensures { OnOk result (string_bytes row.new
+    ensures text { OnOk result (string_bytes row.new
         ≡ string_bytes row.old ++ printed (signed_decimal number)) }
+    ensures kept { BeginsWith (string_bytes row.new) (string_bytes row.old) }
 {
     append_field(row, Buffer::new().format(number))
 }
@@ -106,15 +112,18 @@ pub(crate) fn append_geometry(
     row: &mut String,
     geometry: &Geometry,
 ) -> Result<(), NoMemory>
-    ensures { OnOk result (string_bytes row.new
+    ensures text { OnOk result (string_bytes row.new
         ≡ string_bytes row.old ++ printed (wkt.printed geometry.now)) }
+    ensures kept { BeginsWith (string_bytes row.new) (string_bytes row.old) }
 {
     let text = print(alloc, geometry)?;
     append_field(row, text.as_str())
 }
 
 pub(crate) fn append_field(row: &mut String, field: &str) -> Result<(), NoMemory>
-    ensures { IfOk result (λ _. string_bytes row.new ≡ string_bytes row.old ++ printed field.now) }
+    ensures text { IfOk result (λ _. string_bytes row.new
+        ≡ string_bytes row.old ++ printed field.now) }
+    ensures kept { BeginsWith (string_bytes row.new) (string_bytes row.old) }
 {
     if needs_quotes(field.as_bytes()) {
         row.push_str("\"")?;
@@ -128,7 +137,9 @@ pub(crate) fn append_field(row: &mut String, field: &str) -> Result<(), NoMemory
 
 // The text with each double quote twice.
 fn append_doubled(row: &mut String, text: &str) -> Result<(), NoMemory>
-    ensures { IfOk result (λ _. string_bytes row.new ≡ string_bytes row.old ++ doubled text.now) }
+    ensures text { IfOk result (λ _. string_bytes row.new
+        ≡ string_bytes row.old ++ doubled text.now) }
+    ensures kept { BeginsWith (string_bytes row.new) (string_bytes row.old) }
 {
     let mut rest = text;
     'quotes: while let Some((before, after)) = rest.split_once('"') {

@@ -1,6 +1,7 @@
 // Rows printed of the bytes of features.
 ghost use Rattle.std.specs.Prelude.{◌≡◌, ◌++◌, ◌∷◌, List, true, map, IsUtf8, OnOk};
 ghost use Rattle.std.specs.String.{string_bytes};
+ghost use Rattle.gm_base.specs.Text.{BeginsWith};
 ghost use Rattle.gm_feature.specs.declared.feature.Feature.{Feature as AnyFeature};
 ghost use Rattle.gm_feature.specs.declared.value.Value.{Value as AnyValue};
 ghost use Rattle.gm_feature.specs.Stored.{IsStored, AreStored, IsStoredGeometry, Says};
@@ -27,8 +28,9 @@ pub fn append_stored_row(
     stored: &Stored<'_>,
 ) -> Result<(), NoMemory>
     requires { (f : AnyFeature) × IsStored stored.now f }
-    ensures { (f : AnyFeature) → IsStored stored.now f
+    ensures text { (f : AnyFeature) → IsStored stored.now f
         → OnOk result (string_bytes into.new ≡ string_bytes into.old ++ row_text f) }
+    ensures kept { BeginsWith (string_bytes into.new) (string_bytes into.old) }
 {
     stored_texts_are_utf8();
     append_text(into, stored.id())?;
@@ -41,8 +43,9 @@ fn append_stored_values(
     row: &mut String,
     stored: &Stored<'_>,
 ) -> Result<(), NoMemory>
-    ensures { (f : AnyFeature) → IsStored stored.now f → OnOk result (string_bytes row.new
+    ensures text { (f : AnyFeature) → IsStored stored.now f → OnOk result (string_bytes row.new
         ≡ string_bytes row.old ++ further (map field_of f.values)) }
+    ensures kept { BeginsWith (string_bytes row.new) (string_bytes row.old) }
 {
     fitting_features_have_values();
     let count = stored.of.attributes().len();
@@ -61,6 +64,7 @@ fn append_next(alloc: Global, row: &mut String, left: &mut StoredValues<'_>) -> 
         → OnOk result (string_bytes row.new ≡ string_bytes row.old ++ printed (field_of first)) }
     ensures rest { (first : AnyValue) (others : List AnyValue)
         → AreStored left.old (first ∷ others) → AreStored left.new others }
+    ensures kept { BeginsWith (string_bytes row.new) (string_bytes row.old) }
 {
     match left.next() {
         StoredValue::Geometry(geometry) => append_stored_geometry(alloc, row, &geometry),
@@ -73,8 +77,9 @@ fn append_stored_value(
     row: &mut String,
     value: &StoredValue<'_>,
 ) -> Result<(), NoMemory>
-    ensures { (v : AnyValue) → Says value.now v → is_sound v ≡ true → OnOk result
+    ensures text { (v : AnyValue) → Says value.now v → is_sound v ≡ true → OnOk result
         (string_bytes row.new ≡ string_bytes row.old ++ printed (field_of v)) }
+    ensures kept { BeginsWith (string_bytes row.new) (string_bytes row.old) }
 {
     printed_instants_are_read();
     instants_are_tested();
@@ -93,8 +98,9 @@ fn append_stored_value(
 }
 
 fn append_text(row: &mut String, text: &[u8]) -> Result<(), NoMemory>
-    ensures { IsUtf8 text.now → OnOk result
+    ensures text { IsUtf8 text.now → OnOk result
         (string_bytes row.new ≡ string_bytes row.old ++ printed text.now) }
+    ensures kept { BeginsWith (string_bytes row.new) (string_bytes row.old) }
 {
     match str::from_utf8(text) {
         Ok(field) => append_field(row, field),
@@ -107,8 +113,9 @@ fn append_stored_geometry(
     row: &mut String,
     stored: &StoredGeometry<'_>,
 ) -> Result<(), NoMemory>
-    ensures { (g : AnyGeometry) → IsStoredGeometry stored.now g → OnOk result
+    ensures text { (g : AnyGeometry) → IsStoredGeometry stored.now g → OnOk result
         (string_bytes row.new ≡ string_bytes row.old ++ printed (wkt.printed g)) }
+    ensures kept { BeginsWith (string_bytes row.new) (string_bytes row.old) }
 {
     match stored.decode(alloc)? {
         Some(geometry) => append_geometry(alloc, row, &geometry),

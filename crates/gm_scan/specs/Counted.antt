@@ -10,7 +10,7 @@ use Rattle.gm_scan.specs.Trial.{type_of, filter_of}
 
 -- one more where it matches, up to the greatest u64
 abbrev pub raised : Bool → ℕ → ℕ
-raised matches number = if matches then capped_sum number 1 else number
+raised matches so_far = if matches then capped_sum so_far 1 else so_far
 
 -- one row more: it counts where the filter is true of its feature
 pub record Takes (before : Counted) (bytes : List ℕ) (answer : Result ⊤ NoMemory)

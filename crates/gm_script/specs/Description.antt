@@ -35,7 +35,7 @@ settings_text t Z2 = bits_text (z2_bits_of t) ++ shards_text t
 settings_text t Z3 = bits_text (z3_bits_of t) ++ (period_text t ++ shards_text t)
 settings_text t Xz2 = precision_text t ++ shards_text t
 settings_text t Xz3 = precision_text t ++ (period_text t ++ shards_text t)
-settings_text t (Attr number) = codes ""
+settings_text t (Attr attribute) = codes ""
 
 abbrev pub index_line : Specification → IndexKind → List ℕ
 index_line t kind = codes "index " ++ (index_name t kind ++ settings_text t kind)

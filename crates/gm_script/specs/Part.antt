@@ -7,7 +7,7 @@ use Rattle.gm_types.specs.Specification.{Specification}
 
 -- `part P INDEX cost C shards S runs R`
 abbrev pub part_text : Specification → ℕ → IndexKind → ℕ → ℕ → ℕ → List ℕ
-part_text t place kind cost shards runs =
-    codes "part " ++ (decimal place ++ (codes " " ++ (index_name t kind
+part_text t part_number kind cost shards runs =
+    codes "part " ++ (decimal part_number ++ (codes " " ++ (index_name t kind
     ++ (codes " cost " ++ (decimal cost
     ++ (codes " shards " ++ (decimal shards ++ (codes " runs " ++ decimal runs))))))))

@@ -45,12 +45,12 @@ found_bytes rows matched examined = matched_bytes (codes "ok query ") matched ex
 -- where a row was at fault, its number
 abbrev pub row_number : Option ℕ → List ℕ
 row_number None = []
-row_number (Some number) = codes " row " ++ decimal number
+row_number (Some row) = codes " row " ++ decimal row
 
 abbrev pub refusal_bytes : Code → Option ℕ → List ℕ
-refusal_bytes code number =
+refusal_bytes code row =
     line_of (codes "error "
-    ++ (code_name code ++ (space ∷ (code_phrase code ++ row_number number))))
+    ++ (code_name code ++ (space ∷ (code_phrase code ++ row_number row))))
 
 unfoldable pub reply_bytes : Reply → List ℕ
 reply_bytes (Created name) = line_of (codes "ok create " ++ name)
@@ -62,4 +62,4 @@ reply_bytes (Found rows matched examined) = found_bytes rows matched examined
 reply_bytes (Counted matched examined) = matched_bytes (codes "ok count ") matched examined
 reply_bytes (Explained lines) = listed_bytes (codes "ok explain ") lines
 reply_bytes (Described lines) = listed_bytes (codes "ok describe ") lines
-reply_bytes (Refusal code number) = refusal_bytes code number
+reply_bytes (Refusal code row) = refusal_bytes code row

@@ -49,12 +49,12 @@ pub record IsWanted (types : List Specification) (n : ℕ) (wanted : Tree) : Typ
   pub suits : filter.Suits of wanted
 
 -- besides, a value that the attribute may take
-pub record IsModify (types : List Specification) (n place : ℕ) (value : Value) (wanted : Tree)
+pub record IsModify (types : List Specification) (n attribute : ℕ) (value : Value) (wanted : Tree)
     : Type 0 where
   pub of : Specification
   pub there : slice_get types n ≡ Some of
-  pub holds : MayHold of place value
-  pub dated : keeps_bins of place value ≡ true
+  pub holds : MayHold of attribute value
+  pub dated : keeps_bins of attribute value ≡ true
   pub suits : filter.Suits of wanted
 
 -- the index is enabled, if there is one
@@ -75,7 +75,7 @@ Suits types (order.create t) = IsNewType types t
 Suits types (order.put n feature) = IsNewFeature types n feature
 Suits types (order.delete n id) = IsDelete types n id
 Suits types (order.remove n wanted) = IsWanted types n wanted
-Suits types (order.modify n place value wanted) = IsModify types n place value wanted
+Suits types (order.modify n attribute value wanted) = IsModify types n attribute value wanted
 Suits types (order.query a) = IsQuestion types a
 Suits types (order.count a) = IsQuestion types a
 Suits types (order.explain a) = IsQuestion types a

@@ -9,6 +9,7 @@ use Rattle.std.proofs.lemmas.Nat.{div_below, div-add-mod'}
 use Rattle.std.proofs.lemmas.Bool.{cases_lt, cond-true, cond-false, false_from_ne_true}
 use Rattle.std.proofs.lemmas.List.{length-map, get_or-append-add, get_or-map}
 use Rattle.std.proofs.lemmas.Grind.{common_steps}
+use Rattle.gm_base.specs.Text.{BeginsWith}
 use Rattle.gm_trees.specs.declared.node.Node.{Node}
 use Rattle.gm_trees.specs.Xz.{xz_shape, xz_child}
 use Rattle.gm_trees.specs.Z.{z_root}
@@ -16,7 +17,6 @@ use Rattle.gm_trees.specs.XzLaws.{some_size}
 use Rattle.gm_trees.specs.ZLaws.{part_within}
 use Rattle.gm_curve.specs.Listing.{prefixed, listing, place_in, sequence_count}
 use Rattle.gm_trees.specs.Tree.{walk, HasCode, AreChildNumbers}
-use Rattle.gm_trees.specs.Paths.{BeginsWith}
 use Rattle.gm_trees.proofs.Cells.{Halves, level_of_path}
 
 -- the place by the closed form
@@ -191,7 +191,7 @@ module _ (D G : ℕ) (path : List ℕ) (c : ℕ) (short : length path ≤ G)
       ap (λ l. sequence_count D (G - l)) e
 
   pub codes_begin : HasCode (xz_shape D G) (walk (xz_shape D G) z_root path) c
-      → (c < length (listing D G)) × BeginsWith path (get_or (listing D G) c [])
+      → (c < length (listing D G)) × BeginsWith (get_or (listing D G) c []) path
   codes_begin has =
       let first = first_from_root D G path short in
       let rest = sequence_at D (G - length path) (c - place D G path)
@@ -205,7 +205,7 @@ module _ (D G : ℕ) (path : List ℕ) (c : ℕ) (short : length path ≤ G)
         (rest.0, ap (λ k. get_or (listing D G) k []) (sym at) ∙ at_place D G seq fits more),
       )
 
-  pub beginning_codes : c < length (listing D G) → BeginsWith path (get_or (listing D G) c [])
+  pub beginning_codes : c < length (listing D G) → BeginsWith (get_or (listing D G) c []) path
       → HasCode (xz_shape D G) (walk (xz_shape D G) z_root path) c
   beginning_codes inside begins =
       let seq = sequence_at D G c (omega (arith, inside, length_listing D G)) in

@@ -23,10 +23,6 @@ pub record HasCellOf (path : List ℕ) (n : Node) : Type 0 where
   pub y : n.y ≡ index_by_bits 1 0 path
   pub t : n.t ≡ index_by_bits 2 0 path
 
--- a sequence begins with a path
-abbrev pub BeginsWith : List ℕ → List ℕ → Type 0
-BeginsWith path sequence = (rest : List ℕ) × (sequence ≡ path ++ rest)
-
 -- the cell of these coordinates
 abbrev pub cell_of : List ℕ → Node3
 cell_of at = record { x = slice_index at 0; y = slice_index at 1; t = slice_index at 2 }

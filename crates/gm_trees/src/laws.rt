@@ -1,10 +1,11 @@
 // Which cells and codes the nodes at the ends of paths have.
 ghost use Rattle.std.specs.Prelude.{◌≡◌, ◌≤◌, ◌<◌, ◌-◌, ◌*◌, ◌/◌, ◌^◌, ◌⊎◌, ◌↔◌};
 ghost use Rattle.std.specs.Prelude.{ℕ, List, [], Some, length, slice_index_or};
+ghost use Rattle.gm_base.specs.Text.{BeginsWith};
 ghost use Rattle.gm_curve.specs.Listing.{listing, place_in};
 ghost use Rattle.gm_curve.specs.Xz.{level_of, sequence_of};
 ghost use Rattle.gm_trees.specs.Tree.{walk, HasCode, AreChildNumbers};
-ghost use Rattle.gm_trees.specs.Paths.{spelled, HasCellOf, BeginsWith, AreCoordinates};
+ghost use Rattle.gm_trees.specs.Paths.{spelled, HasCellOf, AreCoordinates};
 ghost use Rattle.gm_trees.specs.Z.{z_shape, z_root, IsCellPath};
 ghost use Rattle.gm_trees.specs.Xz.{xz_shape, IsObjectPath};
 
@@ -46,7 +47,7 @@ pub fn xz_own_code_is_place<const D: usize, const G: u32>()
 pub fn xz_codes_begin_with_path<const D: usize, const G: u32>()
     ensures { (path : List ℕ) (c : ℕ) → length path ≤ G → AreChildNumbers D path
         → HasCode (xz_shape D G) (walk (xz_shape D G) z_root path) c
-        ↔ ((c < length (listing D G)) × BeginsWith path (slice_index_or (listing D G) c [])) }
+        ↔ ((c < length (listing D G)) × BeginsWith (slice_index_or (listing D G) c []) path) }
 {}
 
 /// The node of an object has the object's XZ code as its own, and its reach holds the object's

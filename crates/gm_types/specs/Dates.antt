@@ -13,4 +13,5 @@ IsDateSetting t (Some date) =
 -- the Date of that name, or nothing where there is none
 abbrev pub IsDateNamed : Specification → List ℕ → Option ℕ → Type 0
 IsDateNamed t name None = is_date_name t name ≡ false
-IsDateNamed t name (Some place) = (is_date_name t name ≡ true) × (Some place ≡ place_of_name t name)
+IsDateNamed t name (Some attribute) =
+    (is_date_name t name ≡ true) × (Some attribute ≡ place_of_name t name)

@@ -42,7 +42,7 @@ is_date_kind (Some kind) = is_date kind
 -- the place of a geometry, or none where there is no geometry
 abbrev pub is_default_geometry : Specification → Option ℕ → Bool
 is_default_geometry t None = not (list_any (λ a. is_geometry a.kind) t.attributes)
-is_default_geometry t (Some place) = is_geometry_kind (kind_at t place)
+is_default_geometry t (Some attribute) = is_geometry_kind (kind_at t attribute)
 
 abbrev pub is_read : {A : Type 0} → (List ℕ → Option A) → Option (List ℕ) → Bool
 is_read reading None = true
@@ -110,9 +110,9 @@ pub record IsValid (t : Specification) : Type 0 where
   pub settings : has_settings t ≡ true
 
 -- the specification that is read of a text, for a name and a number
-pub record IsReadType (name : List ℕ) (number : ℕ) (t : Specification) : Type 0 where
+pub record IsReadType (name : List ℕ) (type_number : ℕ) (t : Specification) : Type 0 where
   pub name_is : t.name ≡ name
-  pub number_is : t.number ≡ number
+  pub number_is : t.number ≡ type_number
   pub valid : IsValid t
 
 pub record IsType (t : Specification) : Type 0 where
@@ -123,30 +123,30 @@ pub record IsType (t : Specification) : Type 0 where
 
 -- the place of a default geometry is that of an attribute that holds geometries, those of the
 -- default shape
-pub record IsGeometryAt (t : Specification) (place : ℕ) : Type 0 where
-  pub within : place < length t.attributes
+pub record IsGeometryAt (t : Specification) (attribute : ℕ) : Type 0 where
+  pub within : attribute < length t.attributes
   pub shaped : is_some (default_shape_of t) ≡ true
-  pub kind : kind_at t place ≡ option_map Geo (default_shape_of t)
+  pub kind : kind_at t attribute ≡ option_map Geo (default_shape_of t)
 
 -- the place of a default date is that of a Date
-pub record IsDateAt (t : Specification) (place : ℕ) : Type 0 where
-  pub within : place < length t.attributes
-  pub kind : kind_at t place ≡ Some Date
+pub record IsDateAt (t : Specification) (attribute : ℕ) : Type 0 where
+  pub within : attribute < length t.attributes
+  pub kind : kind_at t attribute ≡ Some Date
 
 -- the attribute in that place is indexed, and holds no geometries
-pub record IsIndexedAt (t : Specification) (place : ℕ) : Type 0 where
-  pub within : place < length t.attributes
-  pub indexed : is_indexed_one (slice_get t.attributes place) ≡ true
-  pub no_geometry : is_geometry_kind (kind_at t place) ≡ false
+pub record IsIndexedAt (t : Specification) (attribute : ℕ) : Type 0 where
+  pub within : attribute < length t.attributes
+  pub indexed : is_indexed_one (slice_get t.attributes attribute) ≡ true
+  pub no_geometry : is_geometry_kind (kind_at t attribute) ≡ false
 
 -- what a type's indexes rest on is there
 pub record HoldsTogether (t : Specification) : Type 0 where
-  pub geometry : (place : ℕ) → default_geometry_of t ≡ Some place → IsGeometryAt t place
-  pub date : (place : ℕ) → default_date_of t ≡ Some place → IsDateAt t place
+  pub geometry : (attribute : ℕ) → default_geometry_of t ≡ Some attribute → IsGeometryAt t attribute
+  pub date : (attribute : ℕ) → default_date_of t ≡ Some attribute → IsDateAt t attribute
   pub z2 : has_index t Z2 ≡ true → default_shape_of t ≡ Some Point
   pub z3 : has_index t Z3 ≡ true
       → (default_shape_of t ≡ Some Point) × (is_some (default_date_of t) ≡ true)
   pub xz2 : has_index t Xz2 ≡ true → is_other_shape (default_shape_of t) ≡ true
   pub xz3 : has_index t Xz3 ≡ true
       → (is_other_shape (default_shape_of t) ≡ true) × (is_some (default_date_of t) ≡ true)
-  pub by_attribute : (place : ℕ) → has_index t (Attr place) ≡ true → IsIndexedAt t place
+  pub by_attribute : (attribute : ℕ) → has_index t (Attr attribute) ≡ true → IsIndexedAt t attribute

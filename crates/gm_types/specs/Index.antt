@@ -39,7 +39,7 @@ fits_index t Z2 = is_point_shape (default_shape_of t)
 fits_index t Z3 = is_point_shape (default_shape_of t) && has_date t
 fits_index t Xz2 = is_other_shape (default_shape_of t)
 fits_index t Xz3 = is_other_shape (default_shape_of t) && has_date t
-fits_index t (Attr number) = is_indexed_one (slice_get t.attributes number)
+fits_index t (Attr attribute) = is_indexed_one (slice_get t.attributes attribute)
 
 -- the members of a list by commas
 abbrev pub members_of : List ℕ → List (List ℕ)
@@ -64,7 +64,7 @@ has_index t Z2 = fits_index t Z2 && lists_word t (codes "z2")
 has_index t Z3 = fits_index t Z3 && lists_word t (codes "z3")
 has_index t Xz2 = fits_index t Xz2 && lists_word t (codes "xz2")
 has_index t Xz3 = fits_index t Xz3 && lists_word t (codes "xz3")
-has_index t (Attr number) = fits_index t (Attr number) && lists_word t (codes "attr")
+has_index t (Attr attribute) = fits_index t (Attr attribute) && lists_word t (codes "attr")
 
 -- those of that many attributes, from a number on
 abbrev pub attribute_indexes : ℕ → ℕ → List IndexKind
@@ -90,7 +90,7 @@ index_name t Z2 = codes "z2"
 index_name t Z3 = codes "z3"
 index_name t Xz2 = codes "xz2"
 index_name t Xz3 = codes "xz3"
-index_name t (Attr number) = attribute_index_name (slice_get t.attributes number)
+index_name t (Attr attribute) = attribute_index_name (slice_get t.attributes attribute)
 
 -- the enabled index of that name
 unfoldable pub index_of_name : Specification → List ℕ → Option IndexKind

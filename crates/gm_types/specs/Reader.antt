@@ -168,7 +168,7 @@ data_of (Some text) = read_all datum_of (parts_of comma text)
 
 -- the place of the star, else that of the first geometry
 abbrev pub place_or : Option ℕ → Option ℕ → Option ℕ
-place_or (Some place) other = Some place
+place_or (Some attribute) other = Some attribute
 place_or None other = other
 
 abbrev pub is_set : Bool → Bool
@@ -180,8 +180,8 @@ geometry_place stars attributes =
 
 abbrev pub stands_on_geometry : List Attribute → Option ℕ → Bool
 stands_on_geometry attributes None = true
-stands_on_geometry attributes (Some place) =
-    is_geometry_kind (option_map (λ attribute. attribute.kind) (slice_get attributes place))
+stands_on_geometry attributes (Some index) =
+    is_geometry_kind (option_map (λ attribute. attribute.kind) (slice_get attributes index))
 
 -- at most one star, and it stands on a geometry
 abbrev pub stars_fit : List Bool → List Attribute → Bool
@@ -190,10 +190,10 @@ stars_fit stars attributes =
 
 -- the specification of these attributes and data
 abbrev pub specification_from : List ℕ → ℕ → List Bool → List Attribute → List Datum → Specification
-specification_from name number stars attributes given =
+specification_from name type_number stars attributes given =
     record {
       name = name;
-      number = number;
+      number = type_number;
       attributes = attributes;
       «data» = given;
       geometry = geometry_place stars attributes;
@@ -204,17 +204,17 @@ specification_if ok t = if ok then Some t else None
 
 abbrev pub outline_with : List ℕ → ℕ → List Bool → Option (List Attribute) → Option (List Datum)
     → Option Specification
-outline_with name number stars None given = None
-outline_with name number stars (Some attributes) None = None
-outline_with name number stars (Some attributes) (Some given) =
+outline_with name type_number stars None given = None
+outline_with name type_number stars (Some attributes) None = None
+outline_with name type_number stars (Some attributes) (Some given) =
     specification_if (stars_fit stars attributes)
-    (specification_from name number stars attributes given)
+    (specification_from name type_number stars attributes given)
 
 -- the attributes before the first `;`, and the user data behind it
 unfoldable pub outline_of : List ℕ → ℕ → List ℕ → Option Specification
-outline_of name number text =
+outline_of name type_number text =
     let attributes = front_of text (cut_once semicolon text) in
-    outline_with name number (stars_of attributes) (attributes_of attributes)
+    outline_with name type_number (stars_of attributes) (attributes_of attributes)
     (data_of (behind_of (cut_once semicolon text)))
 
 -- names and keys stand once each, and the listed keys have listed values
@@ -227,7 +227,7 @@ consistent_only (Some t) = specification_if (is_consistent t) t
 
 -- the specification that a text is read as, however many attributes it has
 abbrev pub specification_of : List ℕ → ℕ → List ℕ → Option Specification
-specification_of name number text = consistent_only (outline_of name number text)
+specification_of name type_number text = consistent_only (outline_of name type_number text)
 
 -- what reading a specification answers
 abbrev pub IsReadAs : Option Specification → Result Specification SpecFault → Type 0

@@ -16,4 +16,4 @@ number_cap = 1000
 
 -- a number, or 1000 where it is more
 abbrev pub capped : Option ℕ → Option ℕ
-capped number = option_map (λ n. min n number_cap) number
+capped given = option_map (λ n. min n number_cap) given

@@ -44,7 +44,7 @@ default_geometry_of t = t.geometry
 
 -- the kind of the attribute in that place
 abbrev pub kind_at : Specification → ℕ → Option Kind
-kind_at t place = slice_get (kinds_of t) place
+kind_at t attribute = slice_get (kinds_of t) attribute
 
 -- the geometries that the default geometry holds, if there is one
 abbrev pub default_shape_of : Specification → Option GeoKind

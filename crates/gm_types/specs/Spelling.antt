@@ -97,16 +97,16 @@ pub record Spells (text : List ℕ) (t : Specification) : Type 0 where
 -- the canonical text: a star before the default geometry alone, no blanks, and quotes where they
 -- are needed
 abbrev pub is_place : Option ℕ → ℕ → Bool
-is_place None place = false
-is_place (Some p) place = p == place
+is_place None attribute = false
+is_place (Some p) attribute = p == attribute
 
 abbrev pub plainly : Bool → Attribute → WrittenAttribute
 plainly star a = record { before = []; star = star; attribute = a; after = [] }
 
 abbrev pub canonical_attributes : Option ℕ → ℕ → List Attribute → List WrittenAttribute
-canonical_attributes geometry place [] = []
-canonical_attributes geometry place (a ∷ rest) =
-    plainly (is_place geometry place) a ∷ canonical_attributes geometry (place + 1) rest
+canonical_attributes geometry attribute [] = []
+canonical_attributes geometry attribute (a ∷ rest) =
+    plainly (is_place geometry attribute) a ∷ canonical_attributes geometry (attribute + 1) rest
 
 abbrev pub needs_quotes : List ℕ → Bool
 needs_quotes value = not (is_bare_form value)
@@ -121,8 +121,8 @@ canonical_text t =
 -- texts with commas before all but the first
 abbrev pub comma_before : ℕ → List ℕ
 comma_before zero = []
-comma_before (suc place) = comma ∷ []
+comma_before (suc before) = comma ∷ []
 
 abbrev pub separated : ℕ → List (List ℕ) → List ℕ
-separated place [] = []
-separated place (text ∷ texts) = comma_before place ++ (text ++ separated (suc place) texts)
+separated before [] = []
+separated before (text ∷ texts) = comma_before before ++ (text ++ separated (suc before) texts)

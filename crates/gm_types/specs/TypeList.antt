@@ -9,8 +9,9 @@ type_names types = map (λ t. t.name) types
 
 -- each has its place as its number
 abbrev pub are_numbered : ℕ → List Specification → Bool
-are_numbered number [] = true
-are_numbered number (t ∷ types) = t.number == number && are_numbered (number + 1) types
+are_numbered type_number [] = true
+are_numbered type_number (t ∷ types) =
+    t.number == type_number && are_numbered (type_number + 1) types
 
 -- types with different names, numbered by their places
 pub record AreTypes (types : List Specification) : Type 0 where

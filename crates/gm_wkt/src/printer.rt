@@ -1,6 +1,7 @@
 // Geometries to texts.
 ghost use Rattle.std.specs.Prelude.{◌≡◌, ◌++◌, List, ℕ, None, IfOk, OnOk};
 ghost use Rattle.std.specs.String.{string_bytes};
+ghost use Rattle.gm_base.specs.Text.{BeginsWith};
 ghost use Rattle.gm_geom.specs.declared.geometry.Geometry.TheVariants as geo;
 ghost use Rattle.gm_geom.specs.Validity.{fault_of};
 ghost use Rattle.gm_wkt.specs.Grammar as grammar;
@@ -30,7 +31,9 @@ pub fn print(alloc: Global, geometry: &Geometry) -> Result<Text, NoMemory>
 
 /// Appends the text that `print` gives. Where memory runs out, part of it may be there.
 pub fn append(out: &mut String, geometry: &Geometry) -> Result<(), NoMemory>
-    ensures { OnOk result (string_bytes out.new ≡ string_bytes out.old ++ printed geometry.now) }
+    ensures text { OnOk result (string_bytes out.new
+        ≡ string_bytes out.old ++ printed geometry.now) }
+    ensures kept { BeginsWith (string_bytes out.new) (string_bytes out.old) }
 {
     out.push_str(keyword_text(keyword_for(geometry)))?;
     out.push_str(" ")?;
@@ -39,8 +42,9 @@ pub fn append(out: &mut String, geometry: &Geometry) -> Result<(), NoMemory>
 
 /// Appends the text that `print` gives of a point. Where memory runs out, part of it may be there.
 pub fn append_point(out: &mut String, point: &Point) -> Result<(), NoMemory>
-    ensures { OnOk result (string_bytes out.new
+    ensures text { OnOk result (string_bytes out.new
         ≡ string_bytes out.old ++ printed (geo.Point point.now)) }
+    ensures kept { BeginsWith (string_bytes out.new) (string_bytes out.old) }
 {
     out.push_str("POINT ")?;
     append_lone(out, point)
@@ -73,7 +77,9 @@ fn keyword_text(keyword: Keyword) -> &'static str
 }
 
 fn append_body(out: &mut String, geometry: &Geometry) -> Result<(), NoMemory>
-    ensures { OnOk result (string_bytes out.new ≡ string_bytes out.old ++ body_text geometry.now) }
+    ensures text { OnOk result (string_bytes out.new
+        ≡ string_bytes out.old ++ body_text geometry.now) }
+    ensures kept { BeginsWith (string_bytes out.new) (string_bytes out.old) }
 {
     match geometry {
         Geometry::Point(point) => append_lone(out, point),
@@ -90,7 +96,8 @@ trait Printed {
     ghost text: { Self → List ℕ };
 
     fn append(&self, out: &mut String) -> Result<(), NoMemory>
-        ensures { OnOk result (string_bytes out.new ≡ string_bytes out.old ++ text self.now) };
+        ensures text { OnOk result (string_bytes out.new ≡ string_bytes out.old ++ text self.now) }
+        ensures kept { BeginsWith (string_bytes out.new) (string_bytes out.old) };
 }
 
 impl Printed for Point {
@@ -112,8 +119,9 @@ impl<T: Printed> Printed for Items<T> {
 }
 
 fn append_list<T: Printed>(out: &mut String, items: &[T]) -> Result<(), NoMemory>
-    ensures { OnOk result (string_bytes out.new
+    ensures text { OnOk result (string_bytes out.new
         ≡ string_bytes out.old ++ list_text T.text items.now) }
+    ensures kept { BeginsWith (string_bytes out.new) (string_bytes out.old) }
 {
     out.push_str("(")?;
     let mut first = true;
@@ -127,8 +135,9 @@ fn append_list<T: Printed>(out: &mut String, items: &[T]) -> Result<(), NoMemory
 }
 
 fn append_separator(out: &mut String, first: bool) -> Result<(), NoMemory>
-    ensures { OnOk result (string_bytes out.new
+    ensures text { OnOk result (string_bytes out.new
         ≡ string_bytes out.old ++ spec.separator_text first) }
+    ensures kept { BeginsWith (string_bytes out.new) (string_bytes out.old) }
 {
     if !first {
         out.push_str(", ")?;
@@ -137,7 +146,9 @@ fn append_separator(out: &mut String, first: bool) -> Result<(), NoMemory>
 }
 
 fn append_lone(out: &mut String, point: &Point) -> Result<(), NoMemory>
-    ensures { OnOk result (string_bytes out.new ≡ string_bytes out.old ++ lone_text point.now) }
+    ensures text { OnOk result (string_bytes out.new
+        ≡ string_bytes out.old ++ lone_text point.now) }
+    ensures kept { BeginsWith (string_bytes out.new) (string_bytes out.old) }
 {
     out.push_str("(")?;
     point.append(out)?;
@@ -146,8 +157,9 @@ fn append_lone(out: &mut String, point: &Point) -> Result<(), NoMemory>
 }
 
 fn append_lones(out: &mut String, points: &[Point]) -> Result<(), NoMemory>
-    ensures { OnOk result (string_bytes out.new
+    ensures text { OnOk result (string_bytes out.new
         ≡ string_bytes out.old ++ list_text lone_text points.now) }
+    ensures kept { BeginsWith (string_bytes out.new) (string_bytes out.old) }
 {
     out.push_str("(")?;
     let mut first = true;

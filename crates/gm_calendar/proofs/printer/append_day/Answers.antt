@@ -6,8 +6,8 @@ use Rattle.jiff_core.proofs.CalendarLemmas.{days_in_month_bounds}
 use Rattle.gm_calendar.proofs.Prints.{day_text-of_date}
 use Rattle.gm_calendar.proofs.printer.append_day.Goals as goal
 
-pub returns : goal.returns
-returns c =
+pub returns-clause-text : goal.returns-clause-text
+returns-clause-text c =
     let date = c.date_from_0000-date in
     let d = date.result in
     let known = d.year_in in
@@ -23,4 +23,4 @@ returns c =
     let same = day_text-of_date d year month day c.args.day date.ensures.day y m n
     (omega (arith, signed_casts, one_part)) in
     IfOk-weaker c.append_date.result _ _
-    (λ x e. e ∙ ap (λ t. string_bytes c.args.text.now ++ t) same) c.append_date.ensures
+    (λ x e. e ∙ ap (λ t. string_bytes c.args.text.now ++ t) same) c.append_date.ensures.text

@@ -1,8 +1,8 @@
 use Rattle.std.proofs.Common.{◌-◌, ◌<◌, ◌^◌, sym, ◌∙◌, arith}
 use Rattle.std.proofs.lemmas.Nat.{mod_below}
 use Rattle.std.specs.String.{string_bytes}
+use Rattle.gm_base.proofs.Lists.{begins_further}
 use Rattle.gm_geom.proofs.Numbers.{pow_pos}
-use Rattle.gm_geom.proofs.Pieces.{begins_further}
 use Rattle.gm_geom.proofs.Places.{places_room, next_digit, with_next, with_none}
 use Rattle.gm_geom.proofs.printer.append_places.Goals as goal
 

@@ -1,6 +1,7 @@
 use Rattle.std.proofs.Common.{◌≡◌, ◌++◌, ◌^◌, ◌<◌, ◌≤◌}
 use Rattle.std.specs.String.{string_bytes}
-use Rattle.gm_geom.specs.Number.{BeginsWith, places_of}
+use Rattle.gm_base.specs.Text.{BeginsWith}
+use Rattle.gm_geom.specs.Number.{places_of}
 use Rattle.gm_geom.proofs.printer.append_places.Given as goal
 
 abbrev pub invariant-places : goal.invariant-places

@@ -12,9 +12,9 @@ returns-in-Geometry-clause-pushed c = λ first others is.
     let g = there.0 in
     pushed_as c.append_stored_geometry.result (string_bytes c.args.row.now)
     (string_bytes c.append_stored_geometry.new.row) (printed (wkt.printed g)) first (value.Geo g)
-    there.2 refl (c.append_stored_geometry.ensures g there.1)
+    there.2 refl (c.append_stored_geometry.ensures.text g there.1)
 
 pub returns-in_default-clause-pushed : goal.returns-in_default-clause-pushed
 returns-in_default-clause-pushed c = λ first others is.
-    c.append_stored_value.ensures first (c.next.ensures.value first others is)
+    c.append_stored_value.ensures.text first (c.next.ensures.value first others is)
     (c.next.ensures.sound first others is)

@@ -4,11 +4,11 @@ use Rattle.std.proofs.lemmas.Result.{IfOk-weaker}
 use Rattle.gm_rows.specs.Printer.{printed}
 use Rattle.gm_rows.proofs.stored.append_text.Goals as goal
 
-pub returns-in-Ok : goal.returns-in-Ok
-returns-in-Ok c = λ utf8.
+pub returns-in-Ok-clause-text : goal.returns-in-Ok-clause-text
+returns-in-Ok-clause-text c = λ utf8.
     IfOk-weaker c.append_field.result _ _
     (λ x e. e ∙ ap (λ (t : List ℕ). string_bytes c.args.row.now ++ printed t)
-    c.in-Ok.ensures.cases.0) c.append_field.ensures
+    c.in-Ok.ensures.cases.0) c.append_field.ensures.text
 
-pub returns-in-Err : goal.returns-in-Err
-returns-in-Err c = λ utf8. absurd (c.in-Err.ensures.cases.0 utf8)
+pub returns-in-Err-clause-text : goal.returns-in-Err-clause-text
+returns-in-Err-clause-text c = λ utf8. absurd (c.in-Err.ensures.cases.0 utf8)

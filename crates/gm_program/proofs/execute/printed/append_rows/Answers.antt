@@ -31,7 +31,7 @@ rows-preserved c = λ features are.
     (flat_map row_line (take i features)) (row_text at.feature)
     (flat_map row_line (take (i + 1) features))
     c.in_ok-push_str.ensures.bytes
-    (c.in_ok-append_stored_row.ensures at.feature (record { fits = at.fits; same = at.same }))
+    (c.in_ok-append_stored_row.ensures.text at.feature (record { fits = at.fits; same = at.same }))
     (c.rows.invariant features are) at.lines
 
 pub returns : goal.returns
