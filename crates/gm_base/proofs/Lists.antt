@@ -73,3 +73,7 @@ begins_further start middle end a b =
 pub laid_behind : (start middle end piece : List ℕ) → BeginsWith middle start
     → end ≡ middle ++ piece → BeginsWith end start
 laid_behind start middle end piece a laid = begins_further start middle end a (piece, laid)
+
+-- what follows is laid behind later
+pub before : (s a b : List ℕ) {t r : List ℕ} → r ≡ t ++ b → t ≡ s ++ a → r ≡ s ++ (a ++ b)
+before s a b last first = last ∙ ap (λ x. x ++ b) first ∙ append_assoc s a b

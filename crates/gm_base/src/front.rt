@@ -1,5 +1,5 @@
 // The first bytes of a list, as one number.
-ghost use Rattle.std.specs.Prelude.{◌≡◌, ℕ, List, IfSome};
+ghost use Rattle.std.specs.Prelude.{◌≡◌, ℕ, List, IfSome, IsNone};
 ghost use Rattle.std.specs.Ordering.{nat_cmp};
 ghost use Rattle.std.specs.Cmp.Lexicographic.{slice_cmp};
 ghost use Rattle.gm_base.specs.Front.{first_of, rest_of, IsFront, IsNumberOfFour};
@@ -55,8 +55,9 @@ fn take_byte(bytes: &[u8]) -> (u8, &[u8])
 /// The order of bytes by the numbers of their first bytes. None where these are the same, so that
 /// the bytes themselves are to be compared.
 pub fn order_by_fronts(front: u128, other: u128) -> Option<Ordering>
-    ensures { IfSome result (λ order. (xs ys : List ℕ) → IsFront front xs → IsFront other ys
+    ensures order { IfSome result (λ order. (xs ys : List ℕ) → IsFront front xs → IsFront other ys
         → slice_cmp nat_cmp xs ys ≡ order) }
+    ensures same { IsNone result → front ≡ other }
 {
     if front < other {
         return Some(Ordering::Less);

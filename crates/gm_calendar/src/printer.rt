@@ -56,7 +56,7 @@ fn ms_from_0000(at: Instant) -> u64
 // The date of a day that is counted from 0000-01-01.
 fn append_day(text: &mut String, day: u64) -> Result<(), NoMemory>
     requires { day < 3_652_425 }
-    ensures text { IfOk result (λ _. string_bytes text.new
+    ensures text { OnOk result (string_bytes text.new
         ≡ string_bytes text.old ++ day_text (span_at days_of_year 10_000 0 day)) }
     ensures kept { BeginsWith (string_bytes text.new) (string_bytes text.old) }
 {
@@ -74,7 +74,7 @@ fn append_date(text: &mut String, year: u64, month: u64, day: u64) -> Result<(),
     requires year { year < 10_000 }
     requires month { month < 100 }
     requires day { day < 100 }
-    ensures text { IfOk result (λ _. string_bytes text.new
+    ensures text { OnOk result (string_bytes text.new
         ≡ string_bytes text.old ++ date_text year month day) }
     ensures kept { BeginsWith (string_bytes text.new) (string_bytes text.old) }
 {
@@ -89,7 +89,7 @@ fn append_date(text: &mut String, year: u64, month: u64, day: u64) -> Result<(),
 #[tactic(auto, unfolding(crate::specs::Spelling::time_text))]
 fn append_time(text: &mut String, ms: u64) -> Result<(), NoMemory>
     requires { ms < 86_400_000 }
-    ensures text { IfOk result (λ _. string_bytes text.new
+    ensures text { OnOk result (string_bytes text.new
         ≡ string_bytes text.old ++ time_text ms) }
     ensures kept { BeginsWith (string_bytes text.new) (string_bytes text.old) }
 {
@@ -103,7 +103,7 @@ fn append_time(text: &mut String, ms: u64) -> Result<(), NoMemory>
 #[tactic(auto, unfolding(crate::specs::Spelling::second_text))]
 fn append_second(text: &mut String, ms: u64) -> Result<(), NoMemory>
     requires { ms < 60_000 }
-    ensures text { IfOk result (λ _. string_bytes text.new
+    ensures text { OnOk result (string_bytes text.new
         ≡ string_bytes text.old ++ second_text ms) }
     ensures kept { BeginsWith (string_bytes text.new) (string_bytes text.old) }
 {
@@ -115,7 +115,7 @@ fn append_second(text: &mut String, ms: u64) -> Result<(), NoMemory>
 
 fn append_two(text: &mut String, number: u64) -> Result<(), NoMemory>
     requires { number < 100 }
-    ensures text { IfOk result (λ _. string_bytes text.new
+    ensures text { OnOk result (string_bytes text.new
         ≡ string_bytes text.old ++ two_digits number) }
     ensures kept { BeginsWith (string_bytes text.new) (string_bytes text.old) }
 {
@@ -125,7 +125,7 @@ fn append_two(text: &mut String, number: u64) -> Result<(), NoMemory>
 
 fn append_digit(text: &mut String, digit: u64) -> Result<(), NoMemory>
     requires { digit < 10 }
-    ensures text { IfOk result (λ _. string_bytes text.new
+    ensures text { OnOk result (string_bytes text.new
         ≡ string_bytes text.old ++ (digit_zero + digit) ∷ []) }
     ensures kept { BeginsWith (string_bytes text.new) (string_bytes text.old) }
 {

@@ -16,10 +16,3 @@ last_digit start middle end n large wide em ee =
 pub only_digit : (start end : List ℕ) (n : ℕ) → n < 10 → end ≡ start ++ (48 + n) ∷ []
     → end ≡ start ++ decimal n
 only_digit start end n small e = e ∙ ap (λ t. start ++ t) (sym (decimal_digit n small))
-
--- three pieces
-pub three_pieces : (start a b c first second third : List ℕ) → first ≡ start ++ a
-    → second ≡ first ++ b → third ≡ second ++ c → third ≡ start ++ (a ++ (b ++ c))
-three_pieces start a b c first second third ea eb ec =
-    ec ∙ ap (λ t. t ++ c) (eb ∙ ap (λ t. t ++ b) ea) ∙ append_assoc (start ++ a) b c
-    ∙ append_assoc start a (b ++ c)

@@ -3,10 +3,6 @@ use Rattle.std.proofs.Common.{◌≡◌, ◌<◌, ℕ, suc, ◌+◌, ◌-◌, Li
 use Rattle.std.proofs.Common.{sym, ap, ◌∙◌, arith}
 use Rattle.gm_program.specs.Generator.{put_line, put_lines, behind}
 
--- what follows is appended later
-pub before : (s a b : List ℕ) {t r : List ℕ} → r ≡ t ++ b → t ≡ s ++ a → r ≡ s ++ (a ++ b)
-before s a b last first = last ∙ ap (λ x. x ++ b) first ∙ append_assoc s a b
-
 pub one_more : (count place state : ℕ) → place < count
     → put_lines (count - place) (place + 1) state
     ≡ put_line (place + 1) state

@@ -36,7 +36,7 @@ pub fn print_row(alloc: Global, of: &FeatureType, feature: &Feature) -> Result<T
 
 /// Appends the row that `print_row` gives. Where memory runs out, part of it may be there.
 pub fn append_row(alloc: Global, into: &mut String, feature: &Feature) -> Result<(), NoMemory>
-    ensures text { IfOk result (λ _. string_bytes into.new
+    ensures text { OnOk result (string_bytes into.new
         ≡ string_bytes into.old ++ row_text feature.now) }
     ensures kept { BeginsWith (string_bytes into.new) (string_bytes into.old) }
 {
@@ -55,7 +55,7 @@ pub fn print_field(alloc: Global, value: &Value) -> Result<Text, NoMemory>
 
 // Each value behind a comma.
 fn append_values(alloc: Global, row: &mut String, values: &[Value]) -> Result<(), NoMemory>
-    ensures text { IfOk result (λ _. string_bytes row.new
+    ensures text { OnOk result (string_bytes row.new
         ≡ string_bytes row.old ++ further (map field_of values.now)) }
     ensures kept { BeginsWith (string_bytes row.new) (string_bytes row.old) }
 {
@@ -73,7 +73,7 @@ pub(crate) fn truth_text(truth: bool) -> &'static str
 }
 
 fn append_value(alloc: Global, row: &mut String, value: &Value) -> Result<(), NoMemory>
-    ensures text { IfOk result (λ _. string_bytes row.new
+    ensures text { OnOk result (string_bytes row.new
         ≡ string_bytes row.old ++ printed (field_of value.now)) }
     ensures kept { BeginsWith (string_bytes row.new) (string_bytes row.old) }
 {
@@ -121,7 +121,7 @@ pub(crate) fn append_geometry(
 }
 
 pub(crate) fn append_field(row: &mut String, field: &str) -> Result<(), NoMemory>
-    ensures text { IfOk result (λ _. string_bytes row.new
+    ensures text { OnOk result (string_bytes row.new
         ≡ string_bytes row.old ++ printed field.now) }
     ensures kept { BeginsWith (string_bytes row.new) (string_bytes row.old) }
 {
@@ -137,7 +137,7 @@ pub(crate) fn append_field(row: &mut String, field: &str) -> Result<(), NoMemory
 
 // The text with each double quote twice.
 fn append_doubled(row: &mut String, text: &str) -> Result<(), NoMemory>
-    ensures text { IfOk result (λ _. string_bytes row.new
+    ensures text { OnOk result (string_bytes row.new
         ≡ string_bytes row.old ++ doubled text.now) }
     ensures kept { BeginsWith (string_bytes row.new) (string_bytes row.old) }
 {

@@ -1,5 +1,5 @@
 -- What a path of child numbers says of the node at its end.
-use Rattle.std.specs.Prelude.{◌≡◌, ◌<◌, ℕ, ◌+◌, ◌*◌, ◌^◌, List, [], ◌∷◌, ◌++◌, length, slice_index}
+use Rattle.std.specs.Prelude.{◌≡◌, ◌<◌, ℕ, ◌+◌, ◌*◌, ◌^◌, List, [], ◌∷◌, length, slice_index}
 use Rattle.std.specs.Prelude.{All}
 use Rattle.std.specs.Int.{bit_at}
 use Rattle.gm_trees.specs.declared.node.Node.{Node}

@@ -1,6 +1,6 @@
 use Rattle.std.proofs.Common.{◌≡◌, ◌++◌, pos, to_z, of_z, w8, w16, unsigned_abs, ap, ◌∙◌, arith}
 use Rattle.std.specs.String.{string_bytes}
-use Rattle.std.proofs.lemmas.Result.{IfOk-weaker}
+use Rattle.std.proofs.lemmas.Result.{on_ok_weaker}
 use Rattle.jiff_core.proofs.SignedLemmas.{signed_casts, one_part}
 use Rattle.jiff_core.proofs.CalendarLemmas.{days_in_month_bounds}
 use Rattle.gm_calendar.proofs.Prints.{day_text-of_date}
@@ -22,5 +22,5 @@ returns-clause-text c =
     let n : d.day ≡ day = omega (arith, signed_casts, one_part) in
     let same = day_text-of_date d year month day c.args.day date.ensures.day y m n
     (omega (arith, signed_casts, one_part)) in
-    IfOk-weaker c.append_date.result _ _
-    (λ x e. e ∙ ap (λ t. string_bytes c.args.text.now ++ t) same) c.append_date.ensures.text
+    on_ok_weaker c.append_date.result
+    (λ e. e ∙ ap (λ t. string_bytes c.args.text.now ++ t) same) c.append_date.ensures.text

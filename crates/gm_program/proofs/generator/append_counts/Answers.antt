@@ -1,7 +1,7 @@
 use Rattle.std.proofs.Common.{◌≡◌, ◌++◌, ℕ, List, codes}
 use Rattle.std.specs.String.{string_bytes}
+use Rattle.gm_base.proofs.Lists.{before}
 use Rattle.gm_program.specs.Generator.{line}
-use Rattle.gm_program.proofs.Joins.{before}
 use Rattle.gm_program.proofs.generator.append_counts.Goals as goal
 
 -- the lines, and what stands behind each of them

@@ -1,8 +1,8 @@
 use Rattle.std.proofs.Common.{rules, ◌≡◌, ◌++◌, codes}
 use Rattle.std.specs.String.{string_bytes}
+use Rattle.gm_base.proofs.Lists.{before}
 use Rattle.gm_geom.specs.Number.{fixed_text}
 use Rattle.gm_program.specs.Generator.{centred, line}
-use Rattle.gm_program.proofs.Joins.{before}
 use Rattle.gm_program.proofs.generator.append_place.Goals as goal
 
 pub returns : goal.returns

@@ -1,9 +1,9 @@
 use Rattle.std.proofs.Common.{◌≡◌, ◌++◌, ◌∙◌, ap, codes}
 use Rattle.std.specs.Fmt.{decimal}
 use Rattle.std.specs.String.{string_bytes}
+use Rattle.gm_base.proofs.Lists.{before}
 use Rattle.gm_calendar.specs.Spelling.{instant_text}
 use Rattle.gm_program.specs.Generator.{behind, drawn, next, place_text, put_line, second_of_2020}
-use Rattle.gm_program.proofs.Joins.{before}
 use Rattle.gm_program.proofs.generator.append_put.Goals as goal
 
 pub returns-clause-script : goal.returns-clause-script

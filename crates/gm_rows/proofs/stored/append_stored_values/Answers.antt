@@ -27,7 +27,8 @@ values-preserved c = record {
       let many = as_many c.args.stored.now.of.now c.attributes.result.now f.values
       c.attributes.ensures.list
       (c.fitting_features_have_values.ensures.count c.args.stored.now.of.now f is.fits) in
-      let low : i < length f.values = omega (arith, many, c.len-count.ensures, c.values-test.true) in
+      let low : i < length f.values =
+      omega (arith, many, c.len-count.ensures, c.values-test.true) in
       let first = get_or f.values i value.Null in
       let others = drop (i + 1) f.values in
       let there : AreStored c.values.left (first ∷ others) =
