@@ -397,5 +397,6 @@ fn append_during(
     out.push_str(" DURING ")?;
     append_instant(out, low)?;
     out.push_str("/")?;
-    append_instant(out, high)
+    append_instant(out, high)?;
+    Ok(())
 }
